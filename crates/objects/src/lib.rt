@@ -1,0 +1,4 @@
+pub mod fault;
+pub mod object;
+pub mod operator;
+pub mod store;
