@@ -1,2 +1,4 @@
+pub mod Decimals
 pub mod Faults
+pub mod Integers
 pub mod Operators

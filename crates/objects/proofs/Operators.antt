@@ -3,6 +3,7 @@ use Prim.Native.Nat.{ℕ, _+_, _-_, _<_, _≤_}
 use mathlib.Core.Path.{_≡_, refl, sym, ap, _∙_}
 use mathlib.Core.Bool.{Bool, true, false, cond}
 use mathlib.Core.List.{List}
+use lib.Dec.{lit<}
 use lib.ListN.{getD, drop}
 use Rattle.std.proofs.shelf.Lists.{at-drop-more, at-drop-all}
 use Rattle.std.proofs.shelf.Equals.{sameBytes-decides}
@@ -91,6 +92,78 @@ numbered-number Equals = refl
 
 pub same-from-number : (a b : Operator) → number a ≡ number b → a ≡ b
 same-from-number a b e = sym (numbered-number a) ∙ ap numbered e ∙ numbered-number b
+
+pub number-some : (o : Operator) → 0 < number o
+number-some Pop = lit< tt
+number-some Exch = lit< tt
+number-some Dup = lit< tt
+number-some Copy = lit< tt
+number-some Index = lit< tt
+number-some Roll = lit< tt
+number-some Clear = lit< tt
+number-some Count = lit< tt
+number-some Mark = lit< tt
+number-some ClearToMark = lit< tt
+number-some CountToMark = lit< tt
+number-some Add = lit< tt
+number-some Sub = lit< tt
+number-some Mul = lit< tt
+number-some Idiv = lit< tt
+number-some Mod = lit< tt
+number-some Neg = lit< tt
+number-some Abs = lit< tt
+number-some Eq = lit< tt
+number-some Ne = lit< tt
+number-some Gt = lit< tt
+number-some Ge = lit< tt
+number-some Lt = lit< tt
+number-some Le = lit< tt
+number-some And = lit< tt
+number-some Or = lit< tt
+number-some Xor = lit< tt
+number-some Not = lit< tt
+number-some True = lit< tt
+number-some False = lit< tt
+number-some Null = lit< tt
+number-some Array = lit< tt
+number-some OpenBracket = lit< tt
+number-some CloseBracket = lit< tt
+number-some Length = lit< tt
+number-some Get = lit< tt
+number-some Put = lit< tt
+number-some Aload = lit< tt
+number-some Astore = lit< tt
+number-some Forall = lit< tt
+number-some String = lit< tt
+number-some Dict = lit< tt
+number-some MaxLength = lit< tt
+number-some Begin = lit< tt
+number-some End = lit< tt
+number-some Def = lit< tt
+number-some Load = lit< tt
+number-some Store = lit< tt
+number-some Known = lit< tt
+number-some Where = lit< tt
+number-some CurrentDict = lit< tt
+number-some CountDictStack = lit< tt
+number-some UserDict = lit< tt
+number-some Exec = lit< tt
+number-some If = lit< tt
+number-some IfElse = lit< tt
+number-some For = lit< tt
+number-some Repeat = lit< tt
+number-some Loop = lit< tt
+number-some Exit = lit< tt
+number-some Stop = lit< tt
+number-some Stopped = lit< tt
+number-some Cvx = lit< tt
+number-some Cvlit = lit< tt
+number-some Cvn = lit< tt
+number-some Xcheck = lit< tt
+number-some Save = lit< tt
+number-some Restore = lit< tt
+number-some Print = lit< tt
+number-some Equals = lit< tt
 
 pub named-name : (o : Operator) → operator-named (name o) ≡ Some o
 unfolding first-named

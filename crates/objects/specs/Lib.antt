@@ -1,2 +1,5 @@
+pub mod Caps
+pub mod Decimals
 pub mod Faults
 pub mod Operators
+pub mod Outcomes

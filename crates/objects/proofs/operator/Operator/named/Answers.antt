@@ -13,18 +13,19 @@ use Rattle.objects.proofs.operator.Operator.named.Needs as need
 pub returns-then-eq : need.returns-then-eq
 returns-then-eq c =
     let told = rw (c .name .ensures) at (matches-decides _ _ _ (c .eq .ensures)) in
-    record {
-      answer = sym (found-here _ _ _ told (c .loop-operator-test .taken) (c .if-eq .taken)) ∙ c .loop-operator .inv;
-      unique = named-name;
-    }
+    let found = found-here _ _ _ told (c .loop-operator-test .taken) (c .if-eq .taken) in
+    let left = c .loop-operator .inv in
+    record { answer = cc; unique = named-name }
 
 pub loop-operator-again : need.loop-operator-again
 loop-operator-again c =
     let told = rw (c .name .ensures) at (matches-decides _ _ _ (c .eq .ensures)) in
-    sym (goes-on _ _ _ told (c .loop-operator-test .taken) (c .if-eq .left)) ∙ c .loop-operator .inv
+    let on = goes-on _ _ _ told (c .loop-operator-test .taken) (c .if-eq .left) in
+    let left = c .loop-operator .inv in
+    cc
 
 pub returns : need.returns
-returns c = record {
-  answer = sym (none-left _ _ (c .loop-operator-test .left)) ∙ c .loop-operator .inv;
-  unique = named-name;
-}
+returns c =
+    let none = none-left (c .args .text .now) (c .loop-operator .operator-index) (c .loop-operator-test .left) in
+    let left = c .loop-operator .inv in
+    record { answer = cc; unique = named-name }
