@@ -1,0 +1,10 @@
+pub mod Copying
+pub mod Excursions
+pub mod Fronts
+pub mod Kept
+pub mod Limits
+pub mod Noting
+pub mod Orders
+pub mod Outcomes
+pub mod Pigeons
+pub mod Undoing

@@ -1,0 +1,5 @@
+pub mod Copies
+pub mod Excursions
+pub mod Journals
+pub mod Kept
+pub mod Notes
