@@ -1,0 +1,5 @@
+mod bucket;
+mod entry;
+pub mod join;
+pub mod lookup;
+pub mod table;
