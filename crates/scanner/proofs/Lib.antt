@@ -1,0 +1,10 @@
+pub mod Cutting
+pub mod Grammar
+pub mod Integers
+pub mod Laws
+pub mod Shorter
+pub mod Soundness
+pub mod Steps
+pub mod Stocks
+pub mod Taking
+pub mod Turns

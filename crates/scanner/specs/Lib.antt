@@ -1,0 +1,12 @@
+pub mod Bytes
+pub mod Gathered
+pub mod Grammar
+pub mod Laws
+pub mod Lexemes
+pub mod Machine
+pub mod Reads
+pub mod Runs
+pub mod Sound
+pub mod Sources
+pub mod Stocks
+pub mod Tokens

@@ -1,0 +1,13 @@
+pub mod buffers;
+pub mod counts;
+pub mod element;
+pub mod guard;
+pub mod lexer;
+pub mod place;
+pub mod run;
+pub mod scratch;
+pub mod source;
+pub mod state;
+pub mod stock;
+pub mod tally;
+pub mod token;
