@@ -1,0 +1,7 @@
+use borrow.Author.Needs.{needs}
+use Rattle.std.specs.declared.result.Result.the-variants.{Ok}
+use Rattle.memory.proofs.Making.{made}
+use Rattle.memory.proofs.memory.Memory.make_dictionary.Needs as need
+
+pub returns-in-Ok : need.returns-in-Ok
+returns-in-Ok g c = record { answer = search needs; state = search needs; empty = made _ _ _ (Ok _) (search needs) (search needs) }
