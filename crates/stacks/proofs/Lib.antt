@@ -1,0 +1,4 @@
+pub mod Marks
+pub mod Moved
+pub mod Tops
+pub mod Turns
