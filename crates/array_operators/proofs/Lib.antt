@@ -1,0 +1,5 @@
+pub mod Gathers
+pub mod Loads
+pub mod NameLengths
+pub mod Stores
+pub mod Texts

@@ -1,0 +1,10 @@
+pub mod Elements
+pub mod Entries
+pub mod Gathers
+pub mod Indices
+pub mod Lengths
+pub mod Loads
+pub mod Marks
+pub mod Outcomes
+pub mod Stores
+pub mod Texts

@@ -1,0 +1,4 @@
+pub mod framing;
+pub mod leaving;
+pub mod loops;
+pub mod procedures;
