@@ -1,4 +1,4 @@
-// Operands as keys: a string becomes a name, and so joins the name table. This is the one place where it does.
+// Operands as keys: a string becomes a name, and so joins the name table.
 ghost use mathlib.Core.Path.{_≡_};
 ghost use Prim.Native.Nat.{_≤_};
 ghost use lib.ListN.{take};
