@@ -1,3 +1,5 @@
+#![tactic(auto)]
+
 pub mod aload;
 pub mod astore;
 pub mod composites;

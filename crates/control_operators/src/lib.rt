@@ -1,3 +1,5 @@
+#![tactic(auto)]
+
 pub mod framing;
 pub mod leaving;
 pub mod loops;

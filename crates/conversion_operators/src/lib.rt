@@ -1,2 +1,4 @@
+#![tactic(auto)]
+
 pub mod flags;
 pub mod names_of_strings;

@@ -1,4 +1,6 @@
 // Runs a rule file on standard input, one step a call, and writes what the steps left as output; a last line says how it ended.
+#![tactic(auto)]
+
 use crate::input::read_input;
 use player::session::play;
 use std::io::{BufWriter, Write};

@@ -1,4 +1,6 @@
 // What both keepers do on examples: every check is generic, and is run on each keeper.
+#![tactic(auto)]
+
 #[cfg(test)]
 mod edges;
 #[cfg(test)]

@@ -1,3 +1,5 @@
+#![tactic(auto)]
+
 pub mod copy;
 pub mod excursion;
 pub mod journal;

@@ -1,3 +1,5 @@
+#![tactic(auto)]
+
 pub mod failing;
 pub mod failure;
 pub mod interpreter;

@@ -1,3 +1,5 @@
+#![tactic(auto)]
+
 pub mod dictionary;
 pub mod key;
 pub mod memory;

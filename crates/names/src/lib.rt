@@ -1,3 +1,5 @@
+#![tactic(auto)]
+
 mod bucket;
 mod entry;
 pub mod join;

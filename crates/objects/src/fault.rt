@@ -1,9 +1,10 @@
 // The refusals: each has a number, which reports and answers carry, and a name.
-ghost use Rattle.std.specs.Prelude.{◌≡◌, Decides};
+ghost use Rattle.std.specs.Prelude.{◌≡◌, ◌==◌, Decides, nat_eq};
 ghost use Rattle.objects.specs.Faults.{fault_number, fault_name};
 ghost use Rattle.std.specs.Cmp.Rules.{comparing};
 ghost use Rattle.std.proofs.Common.{rules};
 ghost use Rattle.std.specs.Cmp as Keys;
+ghost use Rattle.std.specs.Ordering.{on};
 
 #[derive(Clone, Copy, Debug)]
 pub enum Fault {
@@ -67,12 +68,15 @@ impl Fault {
 }
 
 // Two refusals are the same exactly when their numbers are.
-impl PartialEq<Fault> for Fault {
-    ghost equals = { λ a b r. Decides r (a ≡ b) };
+impl PartialEq for Fault {
+    ghost eq = { on fault_number nat_eq };
 
     ghost laws = { Keys.partial_equiv_from_equiv (Prim.search (comparing, rules)) };
 
-    fn eq(&self, other: &Fault) -> bool {
+    fn eq(&self, other: &Fault) -> bool
+        ensures answer { result ≡ (fault_number self.now == fault_number other.now) }
+        ensures same { Decides result (self.now ≡ other.now) }
+    {
         self.number() == other.number()
     }
 }

@@ -1,9 +1,10 @@
 // The operators of a rule file: each has a number, 1 to 70 in this order, and a name.
-ghost use Rattle.std.specs.Prelude.{◌≡◌, Some, Decides};
+ghost use Rattle.std.specs.Prelude.{◌≡◌, ◌==◌, Some, Decides, nat_eq};
 ghost use Rattle.objects.specs.Operators.{number, name, operator_named};
 ghost use Rattle.std.specs.Cmp.Rules.{comparing};
 ghost use Rattle.std.proofs.Common.{rules};
 ghost use Rattle.std.specs.Cmp as Keys;
+ghost use Rattle.std.specs.Ordering.{on};
 
 #[derive(Clone, Copy, Debug)]
 pub enum Operator {
@@ -252,12 +253,15 @@ impl Operator {
 }
 
 // Two operators are the same exactly when their numbers are.
-impl PartialEq<Operator> for Operator {
-    ghost equals = { λ a b r. Decides r (a ≡ b) };
+impl PartialEq for Operator {
+    ghost eq = { on number nat_eq };
 
     ghost laws = { Keys.partial_equiv_from_equiv (Prim.search (comparing, rules)) };
 
-    fn eq(&self, other: &Operator) -> bool {
+    fn eq(&self, other: &Operator) -> bool
+        ensures answer { result ≡ (number self.now == number other.now) }
+        ensures same { Decides result (self.now ≡ other.now) }
+    {
         self.number() == other.number()
     }
 }

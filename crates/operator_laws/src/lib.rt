@@ -1,3 +1,5 @@
+#![tactic(auto)]
+
 pub mod definitions;
 pub mod division;
 pub mod faults;

@@ -1,2 +1,4 @@
+#![tactic(auto)]
+
 pub mod ending;
 pub mod session;

@@ -1,4 +1,6 @@
 // The incident, replayed on each keeper: two nested saves, several writes to the phase, and two ways back.
+#![tactic(auto)]
+
 use crate::replay::replay;
 use crate::stop::Stop;
 use keepers::copy::CopyKeeper;

@@ -1,3 +1,5 @@
+#![tactic(auto)]
+
 pub mod failures;
 pub mod outputs;
 pub mod runs;

@@ -1,3 +1,5 @@
+#![tactic(auto)]
+
 pub mod holding;
 pub mod looking;
 pub mod saves;

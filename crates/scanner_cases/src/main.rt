@@ -1,4 +1,6 @@
 // Runs the scanner over a table of texts, and prints what it reads: the bytes taken so far, and the token or the refusal.
+#![tactic(auto)]
+
 use names::table::NameTable;
 use scanner::scratch::Scratch;
 use scanner::source::Source;

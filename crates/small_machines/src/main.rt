@@ -1,4 +1,6 @@
 // Small machines made by hand: operators are run one by one, without a rule file, on a machine over each keeper, and what they leave is shown.
+#![tactic(auto)]
+
 use crate::playing::play;
 use crate::scenes::SCENES;
 use keepers::copy::CopyKeeper;

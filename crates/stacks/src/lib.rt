@@ -1,3 +1,5 @@
+#![tactic(auto)]
+
 pub mod counts;
 pub mod operand_groups;
 pub mod operand_moves;

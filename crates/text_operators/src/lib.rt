@@ -1,3 +1,5 @@
+#![tactic(auto)]
+
 pub mod equality;
 pub mod object_text;
 pub mod same_text;

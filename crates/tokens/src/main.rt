@@ -1,5 +1,7 @@
 // Lists the tokens of a rule file on standard input, one a line: its first byte's place, its kind and its text. Where the file
 // breaks a rule, the last line says the refusal's number and name and how many bytes had been taken.
+#![tactic(auto)]
+
 use crate::listing::list;
 use std::io::Read;
 

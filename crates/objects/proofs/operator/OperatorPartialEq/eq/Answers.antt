@@ -8,4 +8,7 @@ pub returns : goal.returns
 returns c =
     let mine = c.number.ensures in
     let its = c.number-2.ensures in
-    (λ t. same_from_number _ _ (sym mine ∙ eqb-true _ _ t ∙ its), λ e. eq-eqb _ _ (mine ∙ ap number e ∙ sym its))
+    record {
+      answer = cc;
+      same = (λ t. same_from_number _ _ (sym mine ∙ eqb-true _ _ t ∙ its), λ e. eq-eqb _ _ (mine ∙ ap number e ∙ sym its));
+    }
