@@ -19,8 +19,8 @@ returns-then-n-depth c =
     let e : s ≡ rolled c.args.n c.args.by s = grind (arith, nat_tests, length_tops) in
     record { state = e; law = rolls c.args.n c.args.by s s e }
 
-pub invariant-of-self : goal.invariant-of-self
-invariant-of-self c = search (rules, places)
+pub invariant_of-self : goal.invariant_of-self
+invariant_of-self c = search (rules, places)
 
 pub returns : goal.returns
 returns c =
@@ -29,6 +29,6 @@ returns c =
     let objects = c.args.self.now.objects in
     let size = length_tops depth objects (omega arith) in
     let all : depth - (depth - c.args.n) ≡ c.args.n = omega arith in
-    let turn = tops_rotated objects c.rotate-right.new.self (take (depth - (depth - c.args.n)) (drop (depth - c.args.n) objects)) depth c.args.n (depth - (depth - c.args.n)) c.args.by (omega arith) (omega arith) (omega arith) all (ap (λ m. take m (drop (depth - c.args.n) objects)) all) c.rotate-right.ensures.after in
+    let turn = tops_rotated objects c.rotate_right.new.self (take (depth - (depth - c.args.n)) (drop (depth - c.args.n) objects)) depth c.args.n (depth - (depth - c.args.n)) c.args.by (omega arith) (omega arith) (omega arith) all (ap (λ m. take m (drop (depth - c.args.n) objects)) all) c.rotate_right.ensures.after in
     let e = ap (λ os. with_objects os s) turn ∙ sym (rolled_turns c.args.n c.args.by s (omega arith) (omega arith)) in
     record { state = e; law = rolls c.args.n c.args.by s _ e }

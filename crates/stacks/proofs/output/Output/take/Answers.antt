@@ -13,6 +13,6 @@ returns c =
     let whole : count - 0 ≡ count = omega arith in
     record {
       answer = c.min-count.ensures ∙ ap (λ n. min n (length buffer)) (sym size);
-      buffer = ap (λ ys. ys ++ drop (count - 0) buffer) c.copy-from-slice.ensures.after ∙ ap (λ n. take n bytes ++ drop n buffer) whole ∙ moved_is bytes buffer len count (omega arith) c.min-count.ensures;
-      state = ap (take (len - count)) c.copy-down.ensures ∙ left_is bytes buffer len count (omega arith) c.min-count.ensures;
+      buffer = ap (λ ys. ys ++ drop (count - 0) buffer) c.copy_from_slice.ensures.after ∙ ap (λ n. take n bytes ++ drop n buffer) whole ∙ moved_is bytes buffer len count (omega arith) c.min-count.ensures;
+      state = ap (take (len - count)) c.copy_down.ensures ∙ left_is bytes buffer len count (omega arith) c.min-count.ensures;
     }
