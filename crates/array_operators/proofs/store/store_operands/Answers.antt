@@ -15,13 +15,13 @@ loop-i-preserved g c =
     let at = c.args.at in
     let n = c.args.n in
     let i = c.loop-i.i in
-    let step : memory_of g.K.Keeper.kept c.set-slot.new.self ≡ with_slot (at + i) (or_blank (slice_get os (above + (n - 1 - i)))) m =
+    let step : memory_of g.K.Keeper.kept c.set_slot.new.self ≡ with_slot (at + i) (or_blank (slice_get os (above + (n - 1 - i)))) m =
     let a = c.from.ensures in
     let b = c.from-in-loop-i.ensures in
     let d = c.from-in-loop-i-2.ensures in
     let e = c.from-in-loop-i-3.ensures in
-    let read = c.operand-or-blank-object.ensures in
-    let wrote = c.set-slot.ensures in
+    let read = c.operand_or_blank-object.ensures in
+    let wrote = c.set_slot.ensures in
     cc in
     ap (stored above (at + (i + 1)) (n - (i + 1)) os) step ∙ sym (stored_more above at n i os m (omega arith)) ∙ c.loop-i.invariant
 

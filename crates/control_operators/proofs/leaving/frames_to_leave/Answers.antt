@@ -29,8 +29,8 @@ returns c =
       within = tt;
     }
 
-pub returns-in-default : goal.returns-in-default
-returns-in-default c = record {
-  value = sym (past_frames (entries c.args.frames.now) c.loop-n.n (none_past _ _ c.in-default.ensures)) ∙ c.loop-n.invariant;
+pub returns-in_default : goal.returns-in_default
+returns-in_default c = record {
+  value = sym (past_frames (entries c.args.frames.now) c.loop-n.n (none_past _ _ c.in_default.ensures)) ∙ c.loop-n.invariant;
   within = tt;
 }

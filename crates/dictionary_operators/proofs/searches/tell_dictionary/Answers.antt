@@ -9,6 +9,6 @@ returns g c =
     let s = state_of g.K.Keeper.kept c.args.machine.now in
     let r = place_told c.args.dictionary s.operands in
     record {
-      answer = c.tell-place.ensures.answer ∙ heard_operands r s;
-      state = ap (λ os. with_operands os s) c.tell-place.ensures.state ∙ after_operands r s;
+      answer = c.tell_place.ensures.answer ∙ heard_operands r s;
+      state = ap (λ os. with_operands os s) c.tell_place.ensures.state ∙ after_operands r s;
     }

@@ -15,5 +15,5 @@ loop-i-preserved g c =
     let m = memory_of g.K.Keeper.kept c.args.self.now in
     let i = c.loop-i.i in
     let inside : c.args.from + i < length m.kept.slots = omega arith in
-    c.set-slot.ensures ∙ ap (with_slot (c.args.from + i) blank) c.loop-i.invariant
+    c.set_slot.ensures ∙ ap (with_slot (c.args.from + i) blank) c.loop-i.invariant
     ∙ ap (λ xs. with_kept (with_slots xs m.kept) m) (filled_more m.kept.slots c.args.from blank i inside)

@@ -50,7 +50,7 @@ loop-pair-preserved g c =
     let count = ap (λ h. h.count) c.header-pair-end.ensures in
     let place = c.key_place.ensures in
     let read = c.slot.ensures in
-    let told : holds c.args.key (slot_in m (key_place d j)).value ≡ false = let says = c.is-in.ensures in let other = c.if-is-in.false in cc in
+    let told : holds c.args.key (slot_in m (key_place d j)).value ≡ false = let says = c.is_in.ensures in let other = c.if-is_in.false in cc in
     let passed = pair_passed m d c.args.key (header_in m d).count j (let more = c.loop-pair-test.true in omega arith) told in
     (c.loop-pair.invariant.0, sym (ap (λ p. entry_if d p below) passed) ∙ c.loop-pair.invariant.1)
 
@@ -63,8 +63,8 @@ returns-after-down g c =
     let value = c.down.invariant.0 ∙ sym (ap (λ n. first_entry m c.args.key (reverse (take n ds))) none) ∙ c.down.invariant.1 in
     record { value = value; nearest = looked m c.args.key ds _ value }
 
-pub returns-then-is-in : goal.returns-then-is-in
-returns-then-is-in g c =
+pub returns-then-is_in : goal.returns-then-is_in
+returns-then-is_in g c =
     let m = memory_of g.K.Keeper.kept c.args.self.now in
     let ds = c.args.dictionaries.now in
     let i = c.down.depth - 1 in
@@ -74,7 +74,7 @@ returns-then-is-in g c =
     let count = ap (λ h. h.count) c.header-pair-end.ensures in
     let place = c.key_place.ensures in
     let read = c.slot.ensures in
-    let told : holds c.args.key (slot_in m (key_place d j)).value ≡ true = let says = c.is-in.ensures in let match = c.if-is-in.true in cc in
+    let told : holds c.args.key (slot_in m (key_place d j)).value ≡ true = let says = c.is_in.ensures in let match = c.if-is_in.true in cc in
     let found = pair_found m d c.args.key (header_in m d).count j (let more = c.loop-pair-test.true in omega arith) told in
     let value = sym (ap (λ p. entry_if d p below) found) ∙ c.loop-pair.invariant.1 in
     record { value = value; nearest = looked m c.args.key ds _ value }

@@ -15,5 +15,5 @@ loop-i-preserved g c =
     let m = memory_of g.K.Keeper.kept c.args.self.now in
     let i = c.loop-i.i in
     let inside : c.args.from + i < length m.kept.bytes = omega arith in
-    c.set-byte.ensures ∙ ap (with_byte (c.args.from + i) 0) c.loop-i.invariant
+    c.set_byte.ensures ∙ ap (with_byte (c.args.from + i) 0) c.loop-i.invariant
     ∙ ap (λ xs. with_kept (with_bytes xs m.kept) m) (filled_more m.kept.bytes c.args.from 0 i inside)

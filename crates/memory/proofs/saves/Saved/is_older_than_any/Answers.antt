@@ -5,13 +5,13 @@ use Rattle.memory.specs.Newer.{newer, any_newer}
 use Rattle.memory.proofs.Newest.{any_told}
 use Rattle.memory.proofs.saves.Saved.is_older_than_any.Goals as goal
 
-pub returns-then-is-older-than : goal.returns-then-is-older-than
+pub returns-then-is_older_than : goal.returns-then-is_older_than
 unfolding any_newer
-returns-then-is-older-than c =
+returns-then-is_older_than c =
     let s = c.args.self in
     let os = c.args.objects.now in
     let i = c.loop-object.object-index in
-    let told : newer s (get_or os i blank).value ≡ true = sym c.is-older-than.ensures ∙ c.if-is-older-than.true in
+    let told : newer s (get_or os i blank).value ≡ true = sym c.is_older_than.ensures ∙ c.if-is_older_than.true in
     let here = at_drop_more (any_newer s) os i blank c.loop-object-test.true in
     let value = sym (here ∙ ap (λ b. b || any_newer s (drop (i + 1) os)) told) ∙ c.loop-object.invariant in
     record { value = value; any = any_told s os _ value }
@@ -22,7 +22,7 @@ loop-object-preserved c =
     let s = c.args.self in
     let os = c.args.objects.now in
     let i = c.loop-object.object-index in
-    let told : newer s (get_or os i blank).value ≡ false = sym c.is-older-than.ensures ∙ c.if-is-older-than.false in
+    let told : newer s (get_or os i blank).value ≡ false = sym c.is_older_than.ensures ∙ c.if-is_older_than.false in
     let here = at_drop_more (any_newer s) os i blank c.loop-object-test.true in
     sym (here ∙ ap (λ b. b || any_newer s (drop (i + 1) os)) told) ∙ c.loop-object.invariant
 
