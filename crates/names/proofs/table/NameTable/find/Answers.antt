@@ -1,4 +1,5 @@
 use Rattle.std.proofs.Common.{◌≡◌, ◌<◌, get_or, None, sym, ap, ◌∙◌, subst, rules}
+use Rattle.std.specs.Cmp.{unsigned_Decides}
 use Rattle.std.proofs.lemmas.Slice.Eq.{slice_eq-Decides}
 use Rattle.std.proofs.lemmas.Bool.Decides.{not_from_Decides}
 use Rattle.names.specs.Index.{entry_at, name_in, bucket_of, latest}
@@ -18,14 +19,14 @@ pub returns-then-eq : goal.returns-then-eq
 returns-then-eq c =
     let table = c.args.self.now in
     let part = part_is table.bytes table.entries c.in-Some.number c.from.result c.from-start.result c.from-in-Some.result c.from.ensures c.from-start.ensures c.from-in-Some.ensures in
-    let same = (slice_eq-Decides _ _ _ c.eq.ensures).0 c.if-eq.true in
+    let same = (slice_eq-Decides unsigned_Decides _ _ _ c.eq.ensures).0 c.if-eq.true in
     leads_here c.args.text.now (model table) table.count c.loop-link.link c.loop-link.invariant (length_model table) (apart table) c.in-Some.number c.in-Some.is (name_in_model table c.in-Some.number (search rules) ∙ sym part ∙ same)
 
 onward : (c : goal.Else-eq) → Leads c.args.text.now (model c.args.self.now) c.args.self.now.count (entry_at c.args.self.now.entries c.from.result).next × (up_to (entry_at c.args.self.now.entries c.from.result).next < up_to c.loop-link.link)
 onward c =
     let table = c.args.self.now in
     let part = part_is table.bytes table.entries c.in-Some.number c.from.result c.from-start.result c.from-in-Some.result c.from.ensures c.from-start.ensures c.from-in-Some.ensures in
-    let other : name_in table.bytes (entry_at table.entries c.in-Some.number) ≡ c.args.text.now → ⊥ = λ e. not_from_Decides c.eq.result (slice_eq-Decides _ _ _ c.eq.ensures) c.if-eq.false (part ∙ e) in
+    let other : name_in table.bytes (entry_at table.entries c.in-Some.number) ≡ c.args.text.now → ⊥ = λ e. not_from_Decides c.eq.result (slice_eq-Decides unsigned_Decides _ _ _ c.eq.ensures) c.if-eq.false (part ∙ e) in
     let low : c.in-Some.number < table.count = search rules in
     let name = name_in_model table c.in-Some.number low in
     leads_on c.args.text.now (model table) table.count c.loop-link.link c.loop-link.invariant c.in-Some.number c.in-Some.is (λ e. other (sym name ∙ e))
@@ -41,4 +42,4 @@ loop-link-preserved c = (onward c).0
 pub returns : goal.returns
 returns c =
     let table = c.args.self.now in
-    leads_nowhere c.args.text.now (model table) table.count c.loop-link.link c.loop-link.invariant (length_model table) (apart table) c.in-default.is
+    leads_nowhere c.args.text.now (model table) table.count c.loop-link.link c.loop-link.invariant (length_model table) (apart table) c.in_default.is

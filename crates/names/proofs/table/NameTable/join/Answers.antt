@@ -24,12 +24,12 @@ pub returns-in-None : goal.returns-in-None
 returns-in-None c =
     let text = c.args.text.now in
     let table = c.args.self.now in
-    let told : c.join-new.result ≡ join_answer text (model table) = c.join-new.ensures.answer ∙ ap (λ o. answer_by o text (model table)) c.in-None.ensures in
-    let after : model c.join-new.new.self ≡ names_joined text (model table) = c.join-new.ensures.after ∙ ap (λ o. names_by o text (model table)) c.in-None.ensures in
+    let told : c.join_new.result ≡ join_answer text (model table) = c.join_new.ensures.answer ∙ ap (λ o. answer_by o text (model table)) c.in-None.ensures in
+    let after : model c.join_new.new.self ≡ names_joined text (model table) = c.join_new.ensures.after ∙ ap (λ o. names_by o text (model table)) c.in-None.ensures in
     record {
       answer = told;
       after = after;
-      lasts = join_lasts text (model table) (model c.join-new.new.self) c.join-new.result told after;
-      refused = join_refused text (model table) (model c.join-new.new.self) c.join-new.result told after;
-      apart = apart c.join-new.new.self;
+      lasts = join_lasts text (model table) (model c.join_new.new.self) c.join_new.result told after;
+      refused = join_refused text (model table) (model c.join_new.new.self) c.join_new.result told after;
+      apart = apart c.join_new.new.self;
     }

@@ -3,8 +3,8 @@ use Rattle.std.proofs.lemmas.Bool.{cond-true, cond-false}
 use Rattle.names.proofs.Tables.{length_model, names_enough, room_enough}
 use Rattle.names.proofs.table.NameTable.join_new.Goals as goal
 
-pub returns-then-self-ge-MOST-NAMES : goal.returns-then-self-ge-MOST-NAMES
-returns-then-self-ge-MOST-NAMES c =
+pub returns-then-self-ge-MOST_NAMES : goal.returns-then-self-ge-MOST_NAMES
+returns-then-self-ge-MOST_NAMES c =
     let none = names_enough c.args.self.now c.args.text.now (omega arith) in
     record { answer = sym (cond-false _ _ _ none); after = sym (cond-false _ _ _ none) }
 

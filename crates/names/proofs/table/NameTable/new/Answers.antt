@@ -4,10 +4,10 @@ use Rattle.names.specs.Index.{blank}
 use Rattle.names.proofs.Sound.{no_names, sound_empty}
 use Rattle.names.proofs.table.NameTable.new.Goals as goal
 
-pub invariant-of-result : goal.invariant-of-result
-invariant-of-result c =
+pub invariant_of-result : goal.invariant_of-result
+invariant_of-result c =
     let s = sound_empty (replicate 8192 0) (replicate 1024 blank) (replicate 1024 None) refl refl (λ b h. get_or-replicate 1024 b None None h) in
-    (s.places, (s.buckets, (s.few, (s.room, (s.inside, (s.filled, (s.told, (s.own, (s.newest, (s.linked, tt))))))))))
+    record { places = s.places; buckets = s.buckets; few = s.few; room = s.room; inside = s.inside; filled = s.filled; told = s.told; own = s.own; newest = s.newest; linked = s.linked }
 
 pub returns : goal.returns
 returns c = no_names _ _
