@@ -1,7 +1,7 @@
 -- Copies in a second memory, level by level.
 use Rattle.std.proofs.Common.{◌≡◌, ℕ, zero, suc, ◌+◌, ◌-◌, ◌*◌, ◌<◌, ◌≤◌, min, true, ltb, List, [], ◌∷◌, ◌++◌, length, get_or, take, drop, set, sym, refl, ap, ◌∙◌, ⊎_elim, suc-mul, add-one, arith}
 use borrow.Rule.Slice.PartMut.{put_mid}
-use Rattle.std.proofs.lemmas.List.{append-nil, take-append-drop, take_rest, take_all, take-take, take-append-le, take_at, drop_at, drop_all, drop-take, length-append, length_push, length-take-le, length-drop, set-append_right, get_or_append_left, get_or_push, get_or-drop, take_more, take_more_set}
+use Rattle.std.proofs.lemmas.List.{append-nil, take-append-drop, take_rest, take_all, take-take, take-append-le, take_at, drop_at, drop_all, drop-take, length_push, length-take-le, length-drop, set-append_right, get_or_append_left, get_or_push, get_or-drop, take_more, take_more_set}
 use lib.Seq.{paste}
 use Rattle.std.proofs.lemmas.List.Edits.{paste_more, take-paste, length-paste}
 use Rattle.std.proofs.lemmas.Bool.{cases_lt, lt-ltb}

@@ -1,12 +1,12 @@
 -- The level that an excursion starts from stays open, and what it keeps stays what it was.
-use Rattle.std.proofs.Common.{◌≡◌, ℕ, suc, ◌+◌, ◌<◌, ◌≤◌, Bool, true, false, cond, eqb, ltb, ◌⊎◌, List, [], ◌∷◌, ◌++◌, length, get_or, take, drop, set, Ok, Err, Result, sym, refl, ap, ◌∙◌, subst, inl, inr, arith}
-use Rattle.std.proofs.lemmas.List.{at_drop_more, at_drop_all, length-set, length-take, length_push, get_or-set_same, get_or-set_other, take_all, take_at, take-take, take-append-le, get_or-take, get_or_push, get_or_append_left}
-use Rattle.std.proofs.lemmas.Bool.{cond_both, ltb-true, cases_eq, cases_lt, lt-ltb, le-ltb, eq-eqb, ne_eqb}
+use Rattle.std.proofs.Common.{◌≡◌, ℕ, suc, ◌+◌, ◌<◌, ◌≤◌, Bool, true, false, cond, eqb, ltb, List, [], ◌∷◌, ◌++◌, length, get_or, take, drop, set, Ok, Err, Result, sym, refl, ap, ◌∙◌, subst, inl, inr, arith}
+use Rattle.std.proofs.lemmas.List.{at_drop_more, at_drop_all, length-set, length-take, length_push, get_or-set_same, get_or-set_other, take_all, take_at, take-take, take-append-le, get_or-take, get_or_push}
+use Rattle.std.proofs.lemmas.Bool.{cond_both, ltb-true, cases_eq, lt-ltb, eq-eqb, ne_eqb}
 use Rattle.objects.specs.Outcomes.{after, heard}
 use Rattle.objects.specs.declared.fault.Fault.{Fault}
 use Rattle.objects.specs.declared.fault.Fault.TheVariants.{LimitCheck, InvalidRestore}
 use Rattle.objects.specs.declared.object.Object.{Object}
-use Rattle.keepers.specs.Kept.{Kept, with_slots, with_bytes, with_levels, put_slot, put_byte, open_level, back_to}
+use Rattle.keepers.specs.Kept.{Kept, with_slots, with_bytes, with_levels, put_byte, open_level, back_to}
 use Rattle.keepers.proofs.Outcomes.{accepted_heard, accepted_after}
 use Rattle.keepers.proofs.Kept.{after_put_slot, after_put_byte, after_open, after_back}
 use Rattle.keepers.specs.Excursions.{moved, played, last_put, AsBefore, ComesBack}

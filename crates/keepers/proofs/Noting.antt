@@ -1,13 +1,13 @@
 -- Taking a note keeps the journal in order, and every level what it was.
-use Rattle.std.proofs.Common.{◌≡◌, ℕ, zero, suc, ◌+◌, ◌-◌, ◌*◌, ◌<◌, ◌≤◌, Bool, true, false, ◌&&◌, eqb, ltb, ◌≢◌, ◌⊎◌, List, [], ◌∷◌, ◌++◌, length, get_or, set, sym, refl, ap, ◌∙◌, subst, inl, inr, mul-le-mul_right, add-mul, one-mul, add-one, arith}
+use Rattle.std.proofs.Common.{◌≡◌, ℕ, suc, ◌+◌, ◌*◌, ◌<◌, ◌≤◌, true, false, ◌≢◌, ◌⊎◌, List, length, get_or, set, sym, refl, ap, ◌∙◌, subst, inl, inr, mul-le-mul_right, add-mul, one-mul, add-one, arith}
 use Rattle.std.proofs.lemmas.List.{length-set, set_past, set-set, set-get_or, get_or-set_same, get_or-set_other}
 use Rattle.std.proofs.lemmas.Bool.{cases_eq, cases_lt, lt-ltb, eq-eqb, ltb-true, eqb-true, and_from, and_parts, both_ways}
 use Rattle.objects.specs.declared.object.Object.{Object}
 use Rattle.keepers.specs.Kept.{blank}
 use Rattle.keepers.specs.declared.note.Note.{Note}
 use Rattle.keepers.specs.Notes.{note_at, is_noted, undone, noted_levels, with_note, with_claim}
-use Rattle.keepers.proofs.Pigeons.{Places, room_for_one}
-use Rattle.keepers.proofs.Undoing.{Alike, undone_alike, undone_noted, levels_alike, levels_newest}
+use Rattle.keepers.proofs.Pigeons.{room_for_one}
+use Rattle.keepers.proofs.Undoing.{undone_alike, undone_noted, levels_newest}
 
 -- a record in whose place one with the same field is put: nothing of that field changes
 pub same_field : {Y : Type 0} (f : Note → Y) (notes : List Note) (q r : ℕ) (x : Note) → f x ≡ f (note_at notes q) → f (note_at (set notes q x) r) ≡ f (note_at notes r)

@@ -6,24 +6,25 @@ use Rattle.keepers.specs.Notes.{note_at}
 use Rattle.keepers.specs.declared.journal.Journal.{Journal}
 use Rattle.keepers.proofs.Noting.{Sound}
 
-abbrev pub Order : ℕ → ℕ → ℕ → List Note → List ℕ → Type 0
-Order n limit opened notes counts =
-    (limit ≡ level_limit n (length notes)) × (
-    (opened ≤ limit) × (
-    ((k : ℕ) → k < opened → get_or counts k 0 ≤ n) × (
-    ((k j : ℕ) → (k < opened) × (j < get_or counts k 0) → (note_at notes (k * n + j)).slot < n) × (
-    ((k j : ℕ) → (k < opened) × (j < get_or counts k 0) → (note_at notes (k * n + (note_at notes (k * n + j)).slot)).at ≡ j) × Unit {0}
-    )
-    )
-    )
-    )
+pub record Order (n limit opened : ℕ) (notes : List Note) (counts : List ℕ) : Type 0 where
+  pub limited : limit ≡ level_limit n (length notes)
+  pub within : opened ≤ limit
+  pub counted : (k : ℕ) → k < opened → get_or counts k 0 ≤ n
+  pub named : (k j : ℕ) → (k < opened) × (j < get_or counts k 0) → (note_at notes (k * n + j)).slot < n
+  pub claimed : (k j : ℕ) → (k < opened) × (j < get_or counts k 0) → (note_at notes (k * n + (note_at notes (k * n + j)).slot)).at ≡ j
 
 pub sound_journal : (j : Journal) → Sound j.notes.now j.counts (length j.slots.now) j.opened
 sound_journal j = record { counted = j.counted; named = j.named; claimed = j.claimed }
 
 pub ordered : (j : Journal) (notes : List Note) (counts : List ℕ) → length notes ≡ length j.notes.now → Sound notes counts (length j.slots.now) j.opened → Order (length j.slots.now) j.limit j.opened notes counts
 ordered j notes counts e s =
-    (j.limited ∙ ap (level_limit (length j.slots.now)) (sym e), (j.within, (s.counted, (s.named, (s.claimed, tt)))))
+    record {
+      limited = j.limited ∙ ap (level_limit (length j.slots.now)) (sym e);
+      within = j.within;
+      counted = s.counted;
+      named = s.named;
+      claimed = s.claimed;
+    }
 
 -- the newest level, where one is open
 pub newest_is : (opened : ℕ) → 0 < opened → suc (opened - 1) ≡ opened

@@ -1,5 +1,5 @@
 -- What a definition with one test says where the test is passed, and where it fails.
-use Rattle.std.proofs.Common.{◌≡◌, Bool, true, false, cond, Ok, Err, Result, sym, ap}
+use Rattle.std.proofs.Common.{◌≡◌, Bool, true, false, cond, Ok, Err, sym, ap}
 use Rattle.objects.specs.Outcomes.{after, heard}
 
 module _ {M F : Type 0} (b : Bool) (x : M) (f : F) where

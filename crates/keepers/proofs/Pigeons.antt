@@ -1,6 +1,5 @@
 -- Different places below n are at most n, and one fewer where one of them is left free.
-use Rattle.std.proofs.Common.{◌≡◌, ℕ, zero, suc, ◌<◌, ◌≤◌, cond, eqb, ltb, ◌⊎◌, sym, ◌∙◌, inl, inr, zero-le, arith}
-use Rattle.std.proofs.lemmas.Bool.{cases_eq, cases_lt}
+use Rattle.std.proofs.Common.{◌≡◌, ℕ, zero, suc, ◌<◌, ◌≤◌, cond, eqb, ltb, zero-le, arith}
 use Rattle.std.proofs.lemmas.Bool.Decides.{nat_tests}
 
 -- f sends each number below c to a place below n, no two to one place

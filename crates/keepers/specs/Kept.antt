@@ -1,5 +1,5 @@
 -- What a keeper stands for, and what each of its calls does to that.
-use Rattle.std.specs.Prelude.{ℕ, ◌*◌, ◌/◌, min, false, cond, List, [], ◌∷◌, ◌++◌, length, take, Ok, Err, Result, ◌==◌, nat_lt, slice_index, slice_index_or, slice_set}
+use Rattle.std.specs.Prelude.{ℕ, ◌/◌, min, false, cond, List, [], ◌∷◌, ◌++◌, length, take, Ok, Err, Result, ◌==◌, nat_lt, slice_index, slice_index_or, slice_set}
 use Rattle.objects.specs.declared.fault.Fault.{Fault}
 use Rattle.objects.specs.declared.fault.Fault.TheVariants.{RangeCheck, LimitCheck, InvalidRestore}
 use Rattle.objects.specs.declared.object.Object.{Object}

@@ -18,7 +18,7 @@ pub enum Move {
 
 // Makes one move of an excursion from a level.
 pub fn make_move<K: Keeper>(keeper: &mut K, from: usize, step: Move)
-    ensures { kept keeper.new ≡ moved from step (kept keeper.old) }
+    ensures { K.kept keeper.new ≡ moved from step (K.kept keeper.old) }
 {
     let _ = match step {
         Move::PutSlot { at, object } => keeper.put_slot(at, object),
@@ -35,7 +35,7 @@ pub fn make_move<K: Keeper>(keeper: &mut K, from: usize, step: Move)
 
 // Makes all the moves in their order.
 pub fn play<K: Keeper>(keeper: &mut K, from: usize, moves: &[Move])
-    ensures { kept keeper.new ≡ played from moves.now (kept keeper.old) }
+    ensures { K.kept keeper.new ≡ played from moves.now (K.kept keeper.old) }
 {
     for step in moves {
         make_move(keeper, from, *step);
@@ -45,7 +45,7 @@ pub fn play<K: Keeper>(keeper: &mut K, from: usize, moves: &[Move])
 // Opens a level, plays, and goes back to the level. Whatever the moves are, the slots and the levels are then as right
 // before the level was opened, and each byte is as last put. It is refused exactly where no level can be opened.
 pub fn there_and_back<K: Keeper>(keeper: &mut K, moves: &[Move]) -> Result<(), Fault>
-    ensures { ComesBack moves.now (kept keeper.old) (kept keeper.new) result }
+    ensures { ComesBack moves.now (K.kept keeper.old) (K.kept keeper.new) result }
 {
     let level = keeper.open_levels();
     match keeper.open_level() {

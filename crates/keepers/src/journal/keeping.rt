@@ -14,7 +14,7 @@ use objects::object::Object;
 impl<'m> Journal<'m> {
     // A journal over lent memory of any length and with any contents.
     pub fn new(slots: &'m mut [Object], bytes: &'m mut [u8], notes: &'m mut [Note]) -> Journal<'m>
-        ensures { journal_kept result ≡ fresh slots.old bytes.old (level_limit (length slots.old) (length notes.entry.now)) }
+        ensures { journal_kept result ≡ fresh slots.old bytes.old (level_limit (length slots.old) (length notes.old)) }
     {
         let limit = level_limit(slots.len(), notes.len());
         Journal {

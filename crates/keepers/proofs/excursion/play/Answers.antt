@@ -1,4 +1,4 @@
-use Rattle.std.proofs.Common.{◌+◌, drop, sym, refl, ap, ◌∙◌}
+use Rattle.std.proofs.Common.{◌+◌, drop, sym, ap, ◌∙◌}
 use Rattle.keepers.specs.Excursions.{played}
 use Rattle.keepers.proofs.Excursions.{played_more, played_all}
 use Rattle.keepers.proofs.excursion.play.Goals as goal
@@ -8,7 +8,7 @@ loop-step-preserved g c =
     let from = c.args.from in
     let ms = c.args.moves.now in
     let i = c.loop-step.step-index in
-    ap (played from (drop (i + 1) ms)) c.make-move.ensures
+    ap (played from (drop (i + 1) ms)) c.make_move.ensures
     ∙ played_more from ms i _ (g.K.Keeper.kept c.loop-step.keeper) c.loop-step-test.true ∙ c.loop-step.invariant
 
 pub returns : goal.returns

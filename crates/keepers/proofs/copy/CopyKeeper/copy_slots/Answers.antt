@@ -13,6 +13,6 @@ loop-i-preserved c = (
   c.loop-i.invariant.0,
   c.loop-i.invariant.1,
   c.loop-i.invariant.2,
-  copied_more c.copy-one.new.copies c.loop-i.self.copies.now c.args.self.now.copies.now c.loop-i.self.slots.now c.args.self.now.slots.now
+  copied_more c.copy_one.new.copies c.loop-i.self.copies.now c.args.self.now.copies.now c.loop-i.self.slots.now c.args.self.now.slots.now
       c.args.from c.loop-i.i blank (cc) c.loop-i.invariant.0 c.loop-i.invariant.3 (omega arith) (omega arith),
 )

@@ -7,8 +7,8 @@ use Rattle.keepers.proofs.copy.CopyKeeperKeeper.back_to.Goals as goal
 pub returns-then-level-depth : goal.returns-then-level-depth
 returns-then-level-depth c = grind (arith, nat_tests, length_copy_levels)
 
-pub write-back-requires : goal.write-back-requires
-write-back-requires c =
+pub write_back-requires : goal.write_back-requires
+write_back-requires c =
     let before = c.args.self.now in
     let room = part_room c.args.level c.depth-depth.result (length before.slots.now) (length before.copies.now)
     c.if-level-depth.false c.depth-depth.ensures.room in
@@ -17,7 +17,7 @@ write-back-requires c =
 pub returns : goal.returns
 returns c =
     let before = c.args.self.now in
-    let left = c.write-back.new.self in
+    let left = c.write_back.new.self in
     let room = part_room c.args.level c.depth-depth.result (length before.slots.now) (length before.copies.now)
     c.if-level-depth.false c.depth-depth.ensures.room in
     let leaves = back_leaves before.slots.now left.slots.now before.copies.now left.copies.now before.bytes.now left.bytes.now

@@ -7,8 +7,8 @@ use Rattle.keepers.proofs.copy.CopyKeeperKeeper.open_level.Goals as goal
 pub returns-then-depth-limit : goal.returns-then-depth-limit
 returns-then-depth-limit c = grind (arith, nat_tests, length_copy_levels)
 
-pub copy-slots-requires : goal.copy-slots-requires
-copy-slots-requires c =
+pub copy_slots-requires : goal.copy_slots-requires
+copy_slots-requires c =
     let before = c.args.self.now in
     let room = part_room c.depth-depth.result c.limit-limit.result (length before.slots.now) (length before.copies.now)
     c.if-depth-limit.false c.limit-limit.ensures.room in
@@ -17,7 +17,7 @@ copy-slots-requires c =
 pub returns : goal.returns
 returns c =
     let before = c.args.self.now in
-    let left = c.copy-slots.new.self in
+    let left = c.copy_slots.new.self in
     let room = part_room c.depth-depth.result c.limit-limit.result (length before.slots.now) (length before.copies.now)
     c.if-depth-limit.false c.limit-limit.ensures.room in
     let leaves = open_leaves before.slots.now left.slots.now before.copies.now left.copies.now before.bytes.now left.bytes.now

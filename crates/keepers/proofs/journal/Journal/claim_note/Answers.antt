@@ -1,4 +1,4 @@
-use Rattle.std.proofs.Common.{◌≡◌, ℕ, ◌+◌, ◌<◌, length, get_or, sym, refl, ap, ◌∙◌, subst, arith}
+use Rattle.std.proofs.Common.{◌≡◌, ℕ, ◌+◌, ◌<◌, length, sym, refl, ap, subst, arith}
 use Rattle.std.proofs.lemmas.List.{length-set, get_or-set_same}
 use Rattle.keepers.specs.Journals.{journal_kept, newest_part, newest_count}
 use Rattle.keepers.specs.Kept.{with_levels}
@@ -8,14 +8,14 @@ use Rattle.keepers.proofs.Orders.{Order, ordered, sound_journal, newest_is}
 use Rattle.keepers.proofs.Undoing.{levels_alike}
 use Rattle.keepers.proofs.journal.Journal.claim_note.Goals as goal
 
-pub invariant-of-self : goal.invariant-of-self
-invariant-of-self c =
+pub invariant_of-self : goal.invariant_of-self
+invariant_of-self c =
     let j = c.args.self.now in
     let i = c.args.at in
     let n = length j.slots.now in
-    let sound = claim_sound j.notes.now j.counts n j.opened _ i (sound_journal j) (newest_is _ c.requires.some-open) c.requires.inside c.requires.free in
-    subst (λ (b : ℕ). Order n j.limit j.opened (with_claim j.notes.now (b + i) (newest_count j)) j.counts) (sym c.part-base.ensures.value)
-    (ordered j _ _ (length-set j.notes.now _ _) sound)
+    let sound = claim_sound j.notes.now j.counts n j.opened _ i (sound_journal j) (newest_is _ c.requires.some_open) c.requires.inside c.requires.free in
+    let o = subst (λ (b : ℕ). Order n j.limit j.opened (with_claim j.notes.now (b + i) (newest_count j)) j.counts) (sym c.part-base.ensures.value) (ordered j _ _ (length-set j.notes.now _ _) sound) in
+    record { limited = o.limited; within = o.within; counted = o.counted; named = o.named; claimed = o.claimed }
 
 pub returns : goal.returns
 returns c =

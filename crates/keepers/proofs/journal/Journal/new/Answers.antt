@@ -5,4 +5,4 @@ use Rattle.keepers.proofs.journal.Journal.new.Goals as goal
 
 pub returns : goal.returns
 unfolding noted_levels
-returns c = ap (fresh c.args.slots.now c.args.bytes.now) c.level-limit-limit.ensures.value
+returns c = ap (fresh c.args.slots.now c.args.bytes.now) c.level_limit-limit.ensures.value

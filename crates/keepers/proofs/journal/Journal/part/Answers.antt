@@ -8,8 +8,8 @@ fits j level h =
     let w = j.within in
     part_fits (length j.slots.now) (length j.notes.now) j.limit level j.limited (omega arith)
 
-pub overflow-mul-result : goal.overflow-mul-result
-overflow-mul-result c = let room = fits c.args.self.now c.args.level c.requires in omega arith
+pub overflow_mul-result : goal.overflow_mul-result
+overflow_mul-result c = let room = fits c.args.self.now c.args.level c.requires in omega arith
 
 pub returns : goal.returns
 returns c =

@@ -1,8 +1,8 @@
-use Rattle.std.proofs.Common.{◌≡◌, ℕ, ◌+◌, ◌-◌, ◌*◌, ◌<◌, ◌≤◌, length, get_or, set, sym, refl, ap, ◌∙◌, subst, arith}
+use Rattle.std.proofs.Common.{◌≡◌, ℕ, ◌+◌, ◌-◌, ◌<◌, ◌≤◌, length, get_or, set, sym, refl, subst, arith}
 use Rattle.std.proofs.lemmas.List.{length-set}
 use Rattle.keepers.specs.Journals.{newest_part, newest_count, claims_next}
 use Rattle.keepers.specs.Kept.{blank}
-use Rattle.keepers.specs.Notes.{note_at, noted_levels, with_note}
+use Rattle.keepers.specs.Notes.{noted_levels, with_note}
 use Rattle.objects.specs.declared.object.Object.{Object}
 use Rattle.keepers.specs.declared.journal.Journal.{Journal}
 use Rattle.keepers.proofs.Noting.{count_below, note_sound, note_levels}
@@ -39,13 +39,15 @@ module _ (j : Journal) (i : ℕ) (r : Ready j i) where
       (note_levels j.notes.now j.counts _ j.opened _ i (sound_journal j) (newest_is _ r.some) r.inside r.claimed few r.room j.slots.now refl o)
 
 pub bounds-self-place : goal.bounds-self-place
-bounds-self-place c = place_inside c.args.self.now c.args.at (record { some = c.requires.some-open; inside = c.requires.inside; claimed = c.requires.claimed; room = omega arith; few = omega arith; long = omega arith }) _ c.part.ensures.value
+bounds-self-place c = place_inside c.args.self.now c.args.at (record { some = c.requires.some_open; inside = c.requires.inside; claimed = c.requires.claimed; room = omega arith; few = omega arith; long = omega arith }) _ c.part.ensures.value
 
 pub bounds-self-place-2 : goal.bounds-self-place-2
-bounds-self-place-2 c = place_inside c.args.self.now c.args.at (record { some = c.requires.some-open; inside = c.requires.inside; claimed = c.requires.claimed; room = omega arith; few = omega arith; long = omega arith }) _ c.part.ensures.value
+bounds-self-place-2 c = place_inside c.args.self.now c.args.at (record { some = c.requires.some_open; inside = c.requires.inside; claimed = c.requires.claimed; room = omega arith; few = omega arith; long = omega arith }) _ c.part.ensures.value
 
-pub invariant-of-self : goal.invariant-of-self
-invariant-of-self c = order c.args.self.now c.args.at (record { some = c.requires.some-open; inside = c.requires.inside; claimed = c.requires.claimed; room = omega arith; few = omega arith; long = omega arith }) _ c.part.ensures.value
+pub invariant_of-self : goal.invariant_of-self
+invariant_of-self c =
+    let o = order c.args.self.now c.args.at (record { some = c.requires.some_open; inside = c.requires.inside; claimed = c.requires.claimed; room = omega arith; few = omega arith; long = omega arith }) _ c.part.ensures.value in
+    record { limited = o.limited; within = o.within; counted = o.counted; named = o.named; claimed = o.claimed }
 
 pub returns : goal.returns
-returns c = record { slots = refl; bytes = refl; limit = refl; levels = levels c.args.self.now c.args.at (record { some = c.requires.some-open; inside = c.requires.inside; claimed = c.requires.claimed; room = omega arith; few = omega arith; long = omega arith }) _ c.part.ensures.value }
+returns c = record { slots = refl; bytes = refl; limit = refl; levels = levels c.args.self.now c.args.at (record { some = c.requires.some_open; inside = c.requires.inside; claimed = c.requires.claimed; room = omega arith; few = omega arith; long = omega arith }) _ c.part.ensures.value }

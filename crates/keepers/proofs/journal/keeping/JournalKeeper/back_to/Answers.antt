@@ -1,7 +1,6 @@
-use Rattle.std.proofs.Common.{◌≡◌, ℕ, ◌+◌, ◌-◌, ◌*◌, ◌<◌, ◌≤◌, true, false, ltb, List, [], ◌∷◌, ◌++◌, length, get_or, take, sym, refl, ap, ◌∙◌, subst, arith}
+use Rattle.std.proofs.Common.{◌≡◌, ℕ, ◌+◌, ◌-◌, ◌*◌, ◌<◌, ◌≤◌, true, false, ltb, [], ◌∷◌, ◌++◌, length, get_or, take, sym, refl, ap, ◌∙◌, subst, arith}
 use Rattle.std.proofs.lemmas.List.{take_all, length_push}
 use Rattle.std.proofs.lemmas.Bool.{lt-ltb, le-ltb}
-use Rattle.objects.specs.declared.object.Object.{Object}
 use Rattle.keepers.specs.Journals.{journal_kept}
 use Rattle.keepers.specs.Kept.{Kept, with_slots, with_levels}
 use Rattle.objects.specs.declared.fault.Fault.TheVariants.{InvalidRestore}
@@ -41,9 +40,9 @@ loop-newest-preserved c =
     let old = c.args.self.now in
     let m = c.loop-newest.newest in
     let s = c.loop-newest.self.slots.now in
-    let r = c.play-back.new.self.slots.now in
+    let r = c.play_back.new.self.slots.now in
     let inv = c.loop-newest.invariant in
-    let played = c.play-back.ensures in
+    let played = c.play_back.ensures in
     let some : 0 < m = omega arith in
     let all = noted_levels old.notes.now old.counts old.opened old.slots.now ++ old.slots.now ∷ [] in
     let slots : r ≡ undone old.notes.now ((m - 1) * length s) (get_or old.counts (m - 1) 0) s = played.slots ∙ ap (λ ns. undone ns ((m - 1) * length s) (get_or c.loop-newest.self.counts (m - 1) 0) s) inv.4 ∙ ap (λ cs. undone old.notes.now ((m - 1) * length s) (get_or cs (m - 1) 0) s) inv.5 in

@@ -1,11 +1,11 @@
-use Rattle.std.proofs.Common.{◌≡◌, ℕ, ◌+◌, ◌<◌, ◌≤◌, true, false, ltb, length, set, sym, refl, ap, ◌∙◌, arith}
+use Rattle.std.proofs.Common.{◌≡◌, ◌<◌, ◌≤◌, true, false, ltb, length, ap, ◌∙◌, arith}
 use Rattle.std.proofs.lemmas.Bool.{lt-ltb, le-ltb}
 use Rattle.keepers.specs.Journals.{journal_kept}
 use Rattle.keepers.specs.Kept.{with_levels}
 use Rattle.keepers.specs.declared.journal.Journal.{Journal}
 use Rattle.keepers.proofs.Limits.{limit_most}
 use Rattle.keepers.proofs.Noting.{open_sound}
-use Rattle.keepers.proofs.Orders.{Order, sound_journal}
+use Rattle.keepers.proofs.Orders.{sound_journal}
 use Rattle.keepers.proofs.Outcomes.{accepted_heard, accepted_after, refused_heard, refused_after}
 use Rattle.keepers.proofs.Undoing.{length_levels, levels_open}
 use Rattle.keepers.proofs.journal.keeping.JournalKeeper.open_level.Goals as goal
@@ -28,11 +28,11 @@ returns-then-self c =
       state = refused_after _ _ _ _ (at_limit j c.if-self.true);
     }
 
-pub invariant-of-self : goal.invariant-of-self
-invariant-of-self c =
+pub invariant_of-self : goal.invariant_of-self
+invariant_of-self c =
     let j = c.args.self.now in
     let sound = open_sound j.notes.now j.counts (length j.slots.now) j.opened (counted j (omega arith) c.if-self.false) (sound_journal j) in
-    (j.limited, (omega arith, (sound.counted, (sound.named, (sound.claimed, tt)))))
+    record { limited = j.limited; within = omega arith; counted = sound.counted; named = sound.named; claimed = sound.claimed }
 
 pub returns : goal.returns
 returns c =
