@@ -1,17 +1,16 @@
 -- A key defined: in its place, or behind the last pair.
-use Rattle.std.proofs.Common.{◌≡◌, ℕ, zero, suc, ◌+◌, ◌*◌, ◌<◌, ◌≤◌, Bool, true, false, cond, ltb, ◌≢◌, ◌⊎◌, length, get_or, set, Some, None, Ok, Err, Option, Result, sym, refl, ap, ◌∙◌, subst, inl, inr, arith}
+use Rattle.std.proofs.Common.{◌≡◌, ℕ, suc, ◌+◌, ◌*◌, ◌<◌, ◌≤◌, Bool, cond, ltb, ◌≢◌, ◌⊎◌, length, Some, None, Ok, Err, Result, sym, ap, ◌∙◌, subst, inl, inr, arith}
 use Rattle.std.proofs.lemmas.List.{length-set, get_or-set_same, get_or-set_other}
-use Rattle.std.proofs.lemmas.Bool.{ltb-true, ltb-false, cases_Bool, cases_eq}
+use Rattle.std.proofs.lemmas.Bool.{ltb-true, ltb-false, cases_Bool}
 use Rattle.objects.specs.Outcomes.{after, heard}
 use Rattle.objects.specs.declared.fault.Fault.{Fault}
 use Rattle.objects.specs.declared.fault.Fault.TheVariants.{DictFull}
-use Rattle.objects.specs.declared.object.Header.{Header}
 use Rattle.objects.specs.declared.object.Object.{Object}
 use Rattle.objects.specs.declared.object.Value.TheVariants as value
 use Rattle.memory.specs.Dictionaries.{slot_in, header_of, header_in, header_object, key_place, value_place, first_pair, pair_of, pair_added, defined, defined_at}
 use Rattle.memory.specs.Keys.{key_of, key_value, key_object, holds}
 use Rattle.memory.specs.Memories.{InUse, with_slot}
-use Rattle.memory.specs.Pairs.{HasPair, Whole, Entered, FullOnly, Defining}
+use Rattle.memory.specs.Pairs.{Whole, Entered, Defining}
 use Rattle.memory.specs.declared.key.Key.{Key}
 use Rattle.memory.proofs.Looking.{cases_option}
 use Rattle.memory.proofs.Pairs.{key_of_value, holds_from_key, other_not_held, search_same, search_more, search_last, pair_there}

@@ -1,9 +1,9 @@
 -- A key looked up: nearest the top, or nowhere.
-use Rattle.std.proofs.Common.{◌≡◌, ℕ, zero, suc, ◌+◌, ◌-◌, ◌<◌, ◌≤◌, ◌⊎◌, List, [], ◌∷◌, reverse, length, get_or, Some, None, Option, sym, refl, ap, ◌∙◌, subst, inl, inr, arith}
+use Rattle.std.proofs.Common.{◌≡◌, ℕ, zero, suc, ◌-◌, ◌<◌, ◌⊎◌, List, [], ◌∷◌, reverse, length, get_or, Some, None, Option, sym, refl, ap, ◌∙◌, subst, inl, inr, arith}
 use Rattle.std.proofs.lemmas.List.{length-reverse, get_or-reverse}
 use Rattle.memory.specs.Dictionaries.{pair_of, first_entry, entry_if}
 use Rattle.memory.specs.Memories.{InUse}
-use Rattle.memory.specs.Pairs.{HasPair, FoundAt, Looked}
+use Rattle.memory.specs.Pairs.{HasPair, Looked}
 use Rattle.memory.specs.declared.dictionary.Entry.{Entry}
 use Rattle.memory.specs.declared.key.Key.{Key}
 use Rattle.memory.proofs.Pairs.{pair_there, pair_first, pair_none}

@@ -1,5 +1,5 @@
 -- A dictionary just made has no entry and the room asked for.
-use Rattle.std.proofs.Common.{◌≡◌, ℕ, ◌+◌, ◌-◌, ◌*◌, ◌<◌, ◌≤◌, Bool, true, false, cond, leb, ◌≢◌, ◌⊎◌, List, ◌++◌, length, get_or, take, drop, set, replicate, None, Ok, Err, Result, sym, refl, ap, ◌∙◌, subst, inl, inr, arith}
+use Rattle.std.proofs.Common.{◌≡◌, ℕ, ◌+◌, ◌*◌, ◌≤◌, Bool, cond, leb, List, ◌++◌, length, take, drop, replicate, None, Ok, Err, Result, sym, refl, ap, ◌∙◌, subst, inl, inr, arith}
 use Rattle.std.proofs.lemmas.List.{length-append, length-take-le, length-replicate, length-drop, length-set, get_or-set_same, get_or-set_other}
 use Rattle.std.proofs.lemmas.Bool.{leb-true, cases_Bool}
 use Rattle.objects.specs.Outcomes.{after, answered}
@@ -7,9 +7,9 @@ use Rattle.objects.specs.declared.fault.Fault.{Fault}
 use Rattle.objects.specs.declared.fault.Fault.TheVariants.{VmError}
 use Rattle.objects.specs.declared.object.Value.TheVariants as value
 use Rattle.keepers.specs.Kept.{blank}
-use Rattle.memory.specs.Dictionaries.{slot_in, header_of, header_in, header_object, first_pair, pair_of, with_header, dictionary_made}
+use Rattle.memory.specs.Dictionaries.{slot_in, header_of, header_in, header_object, first_pair, with_header, dictionary_made}
 use Rattle.memory.specs.Memories.{InUse, filled, with_slot, with_slot_top, blanked, slot_room}
-use Rattle.memory.specs.Pairs.{Empty, MadeAt, Made}
+use Rattle.memory.specs.Pairs.{MadeAt, Made}
 use Rattle.memory.specs.declared.key.Key.{Key}
 use Rattle.memory.proofs.Taken.{filled_below}
 

@@ -1,10 +1,10 @@
 -- A keeper's get and put where its refusal is passed over.
-use Rattle.std.proofs.Common.{◌≡◌, ℕ, ◌<◌, ◌≤◌, Bool, true, false, cond, ltb, List, length, get_or, set, Ok, Err, Result, sym, refl, ap, ◌∙◌, arith}
+use Rattle.std.proofs.Common.{◌≡◌, ℕ, Bool, true, false, cond, ltb, List, length, get_or, set, Ok, Err, sym, refl, ap, arith}
 use Rattle.std.proofs.lemmas.List.{set_past, get_or_past}
 use Rattle.std.proofs.lemmas.Bool.{ltb-false}
 use Rattle.objects.specs.Outcomes.{after}
 use Rattle.objects.specs.declared.object.Object.{Object}
-use Rattle.keepers.specs.Kept.{Kept, blank, with_slots, with_bytes, get_slot, get_byte, put_slot, put_byte}
+use Rattle.keepers.specs.Kept.{Kept, with_slots, with_bytes, put_slot, put_byte}
 use Rattle.keepers.proofs.Kept.{after_put_slot, after_put_byte}
 
 pub put_slot_sets : (k : Kept) (i : ℕ) (o : Object) → after (put_slot i o k) k ≡ with_slots (set k.slots i o) k

@@ -1,13 +1,13 @@
 -- Saves found by their numbers, made, and gone back to.
-use Rattle.std.proofs.Common.{◌≡◌, ℕ, zero, suc, ◌+◌, ◌<◌, ◌≤◌, Bool, true, false, cond, ◌&&◌, eqb, ltb, ◌⊎◌, List, [], ◌∷◌, ◌++◌, length, get_or, take, Some, None, Ok, Err, Option, Result, sym, refl, ap, ◌∙◌, subst, inl, inr, arith}
+use Rattle.std.proofs.Common.{◌≡◌, ℕ, zero, suc, ◌+◌, ◌<◌, ◌≤◌, Bool, true, false, cond, ◌&&◌, eqb, ltb, ◌⊎◌, List, [], ◌∷◌, ◌++◌, length, get_or, take, Some, None, Ok, Err, Result, sym, refl, ap, ◌∙◌, subst, inl, inr, arith}
 use Rattle.std.proofs.lemmas.List.{append_assoc, take_at, get_or_at, length-append}
 use Rattle.std.proofs.lemmas.Bool.{eqb-true, eqb-false, eq-eqb, ne_eqb, ltb-true, ltb-false, lt-ltb, and_parts, and_cases, cases_Bool}
 use Rattle.objects.specs.Outcomes.{after, heard, answered}
 use Rattle.objects.specs.declared.fault.Fault.{Fault}
 use Rattle.objects.specs.declared.fault.Fault.TheVariants.{LimitCheck, InvalidRestore}
-use Rattle.keepers.specs.Kept.{Kept, with_slots, with_levels, open_level, back_to}
+use Rattle.keepers.specs.Kept.{Kept, with_slots, with_levels, open_level}
 use Rattle.memory.specs.Memories.{InUse}
-use Rattle.memory.specs.Saves.{OpenAt, NoneOpen, ComesBack, Grown, SaveMade, SaveRefused, Saving, WentBack, BackRefused, GoingBack}
+use Rattle.memory.specs.Saves.{OpenAt, NoneOpen, ComesBack, Grown, SaveMade, Saving, WentBack, GoingBack}
 use Rattle.memory.specs.Saving.{next_number, recorded, if_opened, save_made, save_from, save_place, no_save, returned, if_back, if_open, back_to_save}
 use Rattle.memory.specs.declared.saves.Saved.{Saved}
 use Rattle.memory.proofs.Looking.{cases_option}

@@ -1,5 +1,5 @@
 -- The keys of a dictionary: names, integers and booleans, kept literal.
-use Rattle.std.specs.Prelude.{ℕ, Bool, true, false, not, ℤ, pos, negsuc, Some, None, Option, ◌==◌}
+use Rattle.std.specs.Prelude.{Bool, true, false, not, ℤ, pos, negsuc, Some, None, Option, ◌==◌}
 use Rattle.objects.specs.declared.object.Object.{Object}
 use Rattle.objects.specs.declared.object.Value.{Value}
 use Rattle.objects.specs.declared.object.Value.TheVariants as value

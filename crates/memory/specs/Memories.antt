@@ -1,5 +1,5 @@
 -- Memory in use over a keeper: what lies below the tops, and how more is taken.
-use Rattle.std.specs.Prelude.{ℕ, ◌+◌, min, Bool, cond, ◌&&◌, List, [], ◌∷◌, ◌++◌, length, take, drop, replicate, Ok, Err, Result, nat_le, nat_lt, slice_set}
+use Rattle.std.specs.Prelude.{ℕ, ◌+◌, min, Bool, cond, ◌&&◌, List, [], ◌++◌, length, take, drop, replicate, Ok, Err, Result, nat_le, nat_lt, slice_set}
 use Rattle.objects.specs.declared.fault.Fault.{Fault}
 use Rattle.objects.specs.declared.fault.Fault.TheVariants.{VmError}
 use Rattle.objects.specs.declared.object.Object.{Object}

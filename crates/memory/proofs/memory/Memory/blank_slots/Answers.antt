@@ -1,6 +1,6 @@
 use Rattle.std.proofs.Common.{◌+◌, ◌<◌, length, sym, ap, ◌∙◌, arith}
 use Rattle.keepers.specs.Kept.{blank, with_slots}
-use Rattle.memory.specs.Memories.{with_kept, with_slot, filled}
+use Rattle.memory.specs.Memories.{with_kept, with_slot}
 use Rattle.memory.specs.Views.{memory_of}
 use Rattle.memory.proofs.Filling.{filled_none, filled_more}
 use Rattle.memory.proofs.memory.Memory.blank_slots.Goals as goal

@@ -1,4 +1,4 @@
-use Rattle.std.proofs.Common.{◌≡◌, ◌+◌, ◌-◌, ◌<◌, ◌≤◌, true, false, sym, refl, ap, ◌∙◌, arith}
+use Rattle.std.proofs.Common.{◌≡◌, true, false, sym, ap, ◌∙◌, arith}
 use Rattle.memory.specs.Dictionaries.{slot_in, header_in, key_place}
 use Rattle.memory.specs.Keys.{holds}
 use Rattle.memory.specs.Views.{memory_of}

@@ -1,4 +1,4 @@
-use Rattle.std.proofs.Common.{◌≡◌, ◌-◌, ◌≤◌}
+use Rattle.std.proofs.Common.{◌≡◌, ◌-◌}
 use Rattle.memory.specs.Dictionaries.{header_in, first_pair, pair_of}
 use Rattle.memory.specs.Views.{memory_of}
 use Rattle.memory.proofs.memory.Memory.find.Given as goal

@@ -1,4 +1,4 @@
-use Rattle.std.proofs.Common.{◌≡◌, ◌-◌, ◌≤◌, reverse, take, None}
+use Rattle.std.proofs.Common.{◌≡◌, ◌-◌, reverse, take, None}
 use Rattle.memory.specs.Dictionaries.{header_in, first_pair, entry_if, first_entry}
 use Rattle.memory.specs.Views.{memory_of}
 use Rattle.memory.proofs.memory.Memory.lookup.Given as goal

@@ -1,6 +1,6 @@
 use Rattle.std.proofs.Common.{◌+◌, ◌<◌, length, sym, ap, ◌∙◌, arith}
 use Rattle.keepers.specs.Kept.{with_bytes}
-use Rattle.memory.specs.Memories.{with_kept, with_byte, filled}
+use Rattle.memory.specs.Memories.{with_kept, with_byte}
 use Rattle.memory.specs.Views.{memory_of}
 use Rattle.memory.proofs.Filling.{filled_none, filled_more}
 use Rattle.memory.proofs.memory.Memory.zero_bytes.Goals as goal
