@@ -1,5 +1,5 @@
 -- add sub mul idiv mod neg abs.
-use Rattle.std.specs.Prelude.{ℕ, cond, ℤ, pos, ◌+ℤ◌, ◌-ℤ◌, ◌*ℤ◌, neg_ℤ, Ok, Err, Result, ◌==◌, int_div, int_rem, unsigned_abs}
+use Rattle.std.specs.Prelude.{cond, ℤ, pos, ◌+ℤ◌, ◌-ℤ◌, ◌*ℤ◌, neg_ℤ, Ok, Err, Result, ◌==◌, int_div, int_rem, unsigned_abs}
 use Rattle.objects.specs.declared.fault.Fault.{Fault}
 use Rattle.objects.specs.declared.fault.Fault.TheVariants.{UndefinedResult}
 use Rattle.stacks.specs.Stacked.{Stacked, replaced}

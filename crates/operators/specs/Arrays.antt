@@ -1,10 +1,9 @@
 -- n array, n string.
-use Rattle.std.specs.Prelude.{ℕ, false, Ok, Err, Result}
+use Rattle.std.specs.Prelude.{ℕ, false, Ok, Result}
 use Rattle.objects.specs.declared.fault.Fault.{Fault}
 use Rattle.objects.specs.declared.object.Object.{Object}
-use Rattle.objects.specs.declared.object.Span.{Span}
 use Rattle.objects.specs.declared.object.Value.TheVariants.{Array, String}
-use Rattle.memory.specs.Memories.{InUse, take_slots, take_bytes}
+use Rattle.memory.specs.Memories.{take_slots, take_bytes}
 use Rattle.stacks.specs.Stacked.{replaced}
 use Rattle.operators.specs.Operands.{then, natural_at}
 use Rattle.operators.specs.States.{State, with_memory, with_operands}

@@ -1,5 +1,5 @@
 -- How operators read their operands, and what they refuse.
-use Rattle.std.specs.Prelude.{ℕ, ◌^◌, Bool, false, cond, List, [], ◌∷◌, length, ℤ, pos, negsuc, Some, None, Ok, Err, Option, Result, nat_le}
+use Rattle.std.specs.Prelude.{ℕ, Bool, false, cond, length, ℤ, pos, negsuc, Some, None, Ok, Err, Option, Result, nat_le}
 use Rattle.std.specs.List.{slice_get}
 use Rattle.objects.specs.Decimals.{fits}
 use Rattle.objects.specs.declared.fault.Fault.{Fault}

@@ -1,5 +1,5 @@
 -- gt ge lt le on integers; and or xor not on booleans; true false null.
-use Rattle.std.specs.Prelude.{ℕ, Bool, true, false, not, ◌&&◌, ◌||◌, ℤ, Ok, Err, Result, int_lt}
+use Rattle.std.specs.Prelude.{Bool, true, false, not, ◌&&◌, ◌||◌, ℤ, Ok, Result, int_lt}
 use Rattle.objects.specs.declared.fault.Fault.{Fault}
 use Rattle.stacks.specs.Stacked.{Stacked, truth, replaced}
 use Rattle.operators.specs.Operands.{then, two_integers, boolean_at, two_booleans}

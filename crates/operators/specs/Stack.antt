@@ -1,13 +1,13 @@
 -- pop exch dup copy index roll clear count mark cleartomark counttomark.
-use Rattle.std.specs.Prelude.{ℕ, ◌+◌, Bool, false, cond, length, ℤ, pos, Some, None, Ok, Err, Option, Result, nat_le, unsigned_abs}
+use Rattle.std.specs.Prelude.{ℕ, ◌+◌, false, cond, length, ℤ, pos, Some, None, Ok, Err, Option, Result, nat_le, unsigned_abs}
 use Rattle.std.specs.List.{slice_get}
 use Rattle.std.specs.Int.{int_rem_euclid}
 use Rattle.objects.specs.declared.fault.Fault.{Fault}
 use Rattle.objects.specs.declared.fault.Fault.TheVariants.{RangeCheck, UnmatchedMark}
 use Rattle.objects.specs.declared.object.Object.{Object}
 use Rattle.objects.specs.declared.object.Value.TheVariants.{Mark}
-use Rattle.stacks.specs.Stacked.{Stacked, pushed, discarded, replaced, copied_top, rolled, cleared, count_to_mark}
-use Rattle.operators.specs.Operands.{then, integer, at_least, integer_at, two_integers, natural, natural_at}
+use Rattle.stacks.specs.Stacked.{Stacked, pushed, discarded, replaced, copied_top, rolled, count_to_mark}
+use Rattle.operators.specs.Operands.{then, integer, at_least, two_integers, natural, natural_at}
 
 abbrev pub popped : Stacked → Result Stacked Fault
 popped s = then (at_least 1 s) (λ _. Ok (discarded 1 s))
