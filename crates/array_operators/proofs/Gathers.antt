@@ -1,5 +1,5 @@
 -- A gathering that memory refuses.
-use Rattle.std.proofs.Common.{◌≡◌, ℕ, ◌+◌, Ok, Err, Result, sym, refl, ap, ◌∙◌, arith}
+use Rattle.std.proofs.Common.{◌≡◌, ℕ, ◌+◌, Ok, Err, Result, ap, ◌∙◌, arith}
 use Rattle.objects.specs.Outcomes.{after, heard, answered}
 use Rattle.objects.specs.declared.fault.Fault.{Fault}
 use Rattle.memory.specs.Memories.{InUse, take_slots}

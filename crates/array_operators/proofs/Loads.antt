@@ -1,15 +1,15 @@
 -- The elements of an array pushed one after the other, where they have room.
-use Rattle.std.proofs.Common.{◌≡◌, ℕ, zero, suc, ◌+◌, ◌-◌, ◌<◌, ◌≤◌, true, cond, ltb, leb, List, [], ◌∷◌, length, drop, Ok, Err, Result, sym, refl, ap, ◌∙◌, arith, length-drop}
+use Rattle.std.proofs.Common.{◌≡◌, ℕ, zero, suc, ◌+◌, ◌-◌, ◌<◌, ◌≤◌, cond, leb, List, [], ◌∷◌, length, drop, Ok, Err, Result, sym, refl, ap, ◌∙◌, arith, length-drop}
 use Rattle.std.proofs.lemmas.Bool.{le-leb, lt-ltb}
 use Rattle.std.specs.List.{slice_get}
 use Rattle.objects.specs.Outcomes.{after, heard}
 use Rattle.objects.specs.declared.fault.Fault.{Fault}
-use Rattle.objects.specs.declared.fault.Fault.TheVariants.{StackUnderflow, StackOverflow}
+use Rattle.objects.specs.declared.fault.Fault.TheVariants.{StackOverflow}
 use Rattle.objects.specs.declared.object.Object.{Object}
 use Rattle.objects.specs.declared.object.Span.{Span}
 use Rattle.memory.specs.Dictionaries.{slot_in}
 use Rattle.memory.specs.Memories.{InUse}
-use Rattle.stacks.specs.Stacked.{Stacked, with_objects, pushed, discarded, room_in}
+use Rattle.stacks.specs.Stacked.{Stacked, with_objects, discarded, room_in}
 use Rattle.operators.specs.Operands.{then}
 use Rattle.operators.specs.States.{State, with_operands}
 use Rattle.array_operators.specs.Indices.{present, operand_at, array_span}

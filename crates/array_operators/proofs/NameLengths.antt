@@ -1,5 +1,5 @@
 -- No name has more bytes than all names together.
-use Rattle.std.proofs.Common.{◌≡◌, ℕ, zero, suc, ◌+◌, ◌≤◌, List, [], ◌∷◌, length, sym, refl, ap, ◌∙◌, arith}
+use Rattle.std.proofs.Common.{◌≡◌, ℕ, zero, suc, ◌+◌, ◌≤◌, List, [], ◌∷◌, length, refl, arith}
 use Rattle.std.specs.List.{slice_get}
 use Rattle.names.specs.Names.{bytes_in}
 use Rattle.names.specs.Table.{model}

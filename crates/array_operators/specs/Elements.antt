@@ -1,8 +1,7 @@
 -- get and put.
-use Rattle.std.specs.Prelude.{ℕ, ℤ, pos, Ok, Err, Result}
+use Rattle.std.specs.Prelude.{pos, Ok, Result}
 use Rattle.objects.specs.declared.fault.Fault.{Fault}
 use Rattle.objects.specs.declared.fault.Fault.TheVariants.{TypeCheck}
-use Rattle.objects.specs.declared.object.Object.{Object}
 use Rattle.objects.specs.declared.object.Span.{Span}
 use Rattle.objects.specs.declared.object.Value.{Value}
 use Rattle.objects.specs.declared.object.Value.TheVariants.{Null, Integer, Boolean, Mark, Name, Operator, Array, String, Dictionary, Save, Header}

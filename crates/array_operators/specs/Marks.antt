@@ -1,5 +1,5 @@
 -- [ leaves a mark.
-use Rattle.std.specs.Prelude.{Ok, Err, Result}
+use Rattle.std.specs.Prelude.{Ok, Result}
 use Rattle.objects.specs.declared.fault.Fault.{Fault}
 use Rattle.stacks.specs.Stacked.{pushed}
 use Rattle.operators.specs.Operands.{then}

@@ -1,5 +1,5 @@
 -- The bytes of a string, and the name that they become.
-use Rattle.std.specs.Prelude.{ℕ, zero, suc, ◌+◌, cond, List, [], ◌∷◌, Ok, Err, Result, nat_le, slice_index}
+use Rattle.std.specs.Prelude.{ℕ, zero, suc, ◌+◌, cond, List, [], ◌∷◌, Err, Result, nat_le, slice_index}
 use Rattle.objects.specs.declared.fault.Fault.{Fault}
 use Rattle.objects.specs.declared.fault.Fault.TheVariants.{LimitCheck}
 use Rattle.objects.specs.declared.object.Span.{Span}

@@ -1,11 +1,10 @@
 -- The frames that an exit takes down, one at a time.
-use Rattle.std.proofs.Common.{◌≡◌, ℕ, zero, suc, ◌+◌, ◌<◌, ◌≤◌, List, [], ◌∷◌, length, drop, Some, None, sym, refl, ap, ◌∙◌, arith}
+use Rattle.std.proofs.Common.{◌≡◌, ℕ, zero, suc, ◌+◌, ◌≤◌, List, [], ◌∷◌, length, drop, Some, None, sym, ap, ◌∙◌, arith}
 use Rattle.std.proofs.lemmas.List.{at_drop_all}
 use Rattle.std.specs.List.{slice_get}
 use Rattle.operators.specs.declared.frame.Frame.{Frame}
 use Rattle.control_operators.specs.Frames.{leaving_of, by_leaving, down_to_loop}
 use Rattle.control_operators.specs.declared.leaving.Leaving.{Leaving}
-use Rattle.control_operators.specs.declared.leaving.Leaving.TheVariants.{On, Last, Never}
 
 -- what is left of a list begins with its n-th element
 pub nth_drop : {X : Type 0} (xs : List X) (n : ℕ) (x : X) → Some x ≡ slice_get xs n → drop n xs ≡ x ∷ drop (n + 1) xs

@@ -1,4 +1,4 @@
-use Rattle.std.proofs.Common.{◌≡◌, ◌+◌, ◌-◌, ◌<◌, ◌≤◌, sym, refl, ap, ◌∙◌, arith}
+use Rattle.std.proofs.Common.{◌≡◌, ◌+◌, ◌-◌, sym, ap, ◌∙◌, arith}
 use Rattle.memory.specs.Dictionaries.{slot_in}
 use Rattle.memory.specs.Views.{memory_of}
 use Rattle.stacks.specs.Views.{stacked}

@@ -1,4 +1,4 @@
-use Rattle.std.proofs.Common.{◌≡◌, ◌+◌, ◌-◌, ◌<◌, ◌≤◌, ◌++◌, take, set, sym, refl, ap, ◌∙◌, arith}
+use Rattle.std.proofs.Common.{◌≡◌, ◌+◌, ◌-◌, ◌++◌, take, set, sym, ap, ◌∙◌, arith}
 use Rattle.memory.specs.Views.{memory_of}
 use Rattle.array_operators.specs.Texts.{byte_in, bytes_from}
 use Rattle.array_operators.proofs.Texts.{bytes_more, bytes_none}

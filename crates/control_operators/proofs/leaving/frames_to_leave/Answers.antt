@@ -1,4 +1,4 @@
-use Rattle.std.proofs.Common.{◌≡◌, sym, ◌∙◌, arith}
+use Rattle.std.proofs.Common.{sym, ◌∙◌, arith}
 use Rattle.stacks.specs.Entries.{entries}
 use Rattle.control_operators.proofs.Leaves.{at_frame, past_frames, none_past}
 use Rattle.control_operators.proofs.leaving.frames_to_leave.Goals as goal

@@ -23,8 +23,8 @@ pieces-preserved c =
       told.whole ∙ c.pieces.invariant.2,
     )
 
-pub overflow-cast-slots : goal.overflow-cast-slots
-overflow-cast-slots c = omega (arith, ap length c.slots.ensures, length-take c.advance.new.counts.tally.done c.advance.new.self.stock.done)
+pub overflow_cast-slots : goal.overflow_cast-slots
+overflow_cast-slots c = omega (arith, ap length c.slots.ensures, length-take c.advance.new.counts.tally.done c.advance.new.self.stock.done)
 
 pub returns-in-Complete : goal.returns-in-Complete
 returns-in-Complete c =
