@@ -10,7 +10,7 @@ use Rattle.objects.specs.declared.object.Value.TheVariants as value
 use Rattle.stacks.specs.Stacked.{Stacked, replaced, truth}
 use Rattle.operators.specs.Operands.{then}
 use Rattle.operators.specs.States.{State, with_operands}
-use Rattle.array_operators.specs.Outcomes.{Outcome, refused, go_on}
+use Rattle.array_operators.specs.Outcomes.{Outcome, go_on}
 use Rattle.array_operators.specs.Texts.{string_name, string_joined}
 
 abbrev pub or_underflow : Option Object → Result Object Fault
