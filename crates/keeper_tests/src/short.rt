@@ -2,6 +2,7 @@
 use keepers::keeper::Keeper;
 use objects::fault::Fault;
 use objects::object::{Object, Value};
+use std::process::Abort;
 use std::test::*;
 
 pub fn number(number: i32) -> Object {
@@ -16,24 +17,30 @@ pub fn put<K: Keeper>(keeper: &mut K, at: usize, value: i32) -> Result<(), Fail>
     Ok(())
 }
 
-pub fn holds<K: Keeper>(keeper: &K, at: usize, value: i32) -> Result<(), Fail> {
+pub fn holds<K: Keeper>(rt: &impl Abort, keeper: &K, at: usize, value: i32) -> Result<(), Fail> {
     let object = keeper.slot(at)?;
-    assert!(object == number(value));
+    assert!(rt; object == number(value));
     Ok(())
 }
 
 // Slots 0, 1 and 2 hold these numbers.
-pub fn hold<K: Keeper>(keeper: &K, first: i32, second: i32, third: i32) -> Result<(), Fail> {
-    holds(keeper, 0, first)?;
-    holds(keeper, 1, second)?;
-    holds(keeper, 2, third)
+pub fn hold<K: Keeper>(
+    rt: &impl Abort,
+    keeper: &K,
+    first: i32,
+    second: i32,
+    third: i32,
+) -> Result<(), Fail> {
+    holds(rt, keeper, 0, first)?;
+    holds(rt, keeper, 1, second)?;
+    holds(rt, keeper, 2, third)
 }
 
-pub fn refused<T: Drop>(answer: Result<T, Fault>, with: u8) -> Result<(), Fail> {
+pub fn refused<T: Drop>(rt: &impl Abort, answer: Result<T, Fault>, with: u8) -> Result<(), Fail> {
     match answer {
         Ok(_) => Err(Fail::new("not refused")),
         Err(fault) => {
-            assert_eq!(fault.number(), with);
+            assert_eq!(rt; fault.number(), with);
             Ok(())
         },
     }

@@ -50,17 +50,17 @@ fn play<K: Keeper>(keeper: &mut K, step: Move) -> Result<(), Fault> {
 
 fn print_move(rt: &HostRuntime, step: Move) -> io::Result<()> {
     match step {
-        Move::Phase(phase) => print!(rt, "  phase     {:<10}", phase.word()),
-        Move::Modifier(number) => print!(rt, "  modifier  {number:<10}"),
-        Move::Open(save) => print!(rt, "  save      {:<10}", save.word()),
-        Move::Back(save) => print!(rt, "  back to   {:<10}", save.word()),
+        Move::Phase(phase) => print!(rt; "  phase     {:<10}", phase.word()),
+        Move::Modifier(number) => print!(rt; "  modifier  {number:<10}"),
+        Move::Open(save) => print!(rt; "  save      {:<10}", save.word()),
+        Move::Back(save) => print!(rt; "  back to   {:<10}", save.word()),
     }
 }
 
 fn print_scene(rt: &HostRuntime, scene: Scene) -> io::Result<()> {
     match scene.modifier_number() {
-        Some(number) => print!(rt, "  {:<10} {number:>8}", scene.phase_word()),
-        None => print!(rt, "  {:<10}        -", scene.phase_word()),
+        Some(number) => print!(rt; "  {:<10} {number:>8}", scene.phase_word()),
+        None => print!(rt; "  {:<10}        -", scene.phase_word()),
     }
 }
 
@@ -86,7 +86,7 @@ fn tell<K: Keeper>(
         print_scene(rt, after)?;
         match *step {
             Move::Open(save) => remembered.note(save, before),
-            Move::Back(save) => print!(rt, "   {}", verdict(after, remembered.of(save)))?,
+            Move::Back(save) => print!(rt; "   {}", verdict(after, remembered.of(save)))?,
             _ => {}
         }
         println!(rt; "")?;
@@ -112,10 +112,10 @@ fn tell_outing<K: Keeper>(rt: &HostRuntime, keeper: &mut K) -> Result<(), Stop> 
     there_and_back(keeper, &OUTING)?;
     let after = Scene::read(keeper)?;
     println!(rt; "  move                  phase      modifier")?;
-    print!(rt, "  before them         ")?;
+    print!(rt; "  before them         ")?;
     print_scene(rt, before)?;
     println!(rt; "")?;
-    print!(rt, "  after the way back  ")?;
+    print!(rt; "  after the way back  ")?;
     print_scene(rt, after)?;
     println!(rt; "   {}", verdict(after, before))?;
     println!(rt; "")?;
