@@ -1,4 +1,4 @@
-use Rattle.std.proofs.Common.{suc, ◌<◌, length, take, Ok, sym, refl, ap, ◌∙◌, arith}
+use Rattle.std.proofs.Common.{suc, length, Ok, sym, refl, ap, ◌∙◌, arith}
 use Rattle.names.specs.Table.{model}
 use Rattle.std.proofs.lemmas.List.{length-take}
 use Rattle.scanner.specs.Reads.{in_progress, strings_read, went_on}
@@ -23,8 +23,8 @@ pieces-preserved c =
       told.whole ∙ c.pieces.invariant.2,
     )
 
-pub overflow-cast-slots : goal.overflow-cast-slots
-overflow-cast-slots c = omega (arith, ap length c.slots.ensures, length-take c.advance.new.counts.tally.done c.advance.new.self.stock.done)
+pub overflow_cast-slots : goal.overflow_cast-slots
+overflow_cast-slots c = omega (arith, ap length c.slots.ensures, length-take c.advance.new.counts.tally.done c.advance.new.self.stock.done)
 
 pub returns-in-Complete : goal.returns-in-Complete
 returns-in-Complete c =
