@@ -1,7 +1,7 @@
 -- A new name behind the others: the list of names, and the index over it.
 use Rattle.std.proofs.Common.{◌≡◌, ℕ, ◌+◌, ◌<◌, ◌≤◌, List, [], ◌∷◌, ◌++◌, map, length, take, drop, set, sym, refl, ap, ◌∙◌, subst, arith}
 use lib.Seq.{paste}
-use Rattle.std.specs.List.{AllByRecursion as All}
+use Rattle.std.specs.List.{AllByRecursion}
 use Rattle.std.proofs.lemmas.List.Edits.{paste_all}
 use Rattle.std.proofs.ByRecursion.{All-from_get_or}
 use Rattle.std.proofs.lemmas.List.{length-take-le, take_more_set, take-append-le, take-take, take_at, drop_at, drop-take, map_push, get_or-take}
@@ -22,7 +22,7 @@ part_new bytes at text inside =
     ∙ ap (take (length text)) (drop_at (take at bytes) (text ++ drop (at + length text) bytes) at (length-take-le at bytes inside))
     ∙ take_at text (drop (at + length text) bytes) (length text) refl
 
-map_same : {X Y : Type 0} (f g : X → Y) (xs : List X) → All (λ x. f x ≡ g x) xs → map f xs ≡ map g xs
+map_same : {X Y : Type 0} (f g : X → Y) (xs : List X) → AllByRecursion (λ x. f x ≡ g x) xs → map f xs ≡ map g xs
 map_same f g [] same = refl
 map_same f g (x ∷ xs) same = ap (λ y. y ∷ map f xs) same.0 ∙ ap (λ ys. g x ∷ ys) (map_same f g xs same.1)
 

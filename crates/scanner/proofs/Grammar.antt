@@ -1,15 +1,15 @@
 -- Reading piece by piece follows the grammar.
-use Rattle.std.proofs.Common.{◌≡◌, ℕ, zero, suc, ◌+◌, ◌-◌, ◌<◌, ◌≤◌, Bool, true, false, cond, ltb, List, [], ◌∷◌, ◌++◌, length, Ok, Err, Result, sym, refl, ap, ◌∙◌, subst, arith}
+use Rattle.std.proofs.Common.{◌≡◌, ℕ, zero, suc, ◌+◌, ◌-◌, ◌<◌, ◌≤◌, Bool, true, false, cond, ltb, List, [], ◌∷◌, ◌++◌, length, Ok, Err, Result, refl, ap, ◌∙◌, arith}
 use Rattle.names.specs.Names.{join_answer, names_joined}
 use Rattle.objects.specs.declared.fault.Fault.{Fault}
 use Rattle.objects.specs.declared.fault.Fault.TheVariants.{LimitCheck}
-use Rattle.objects.specs.declared.object.Value.TheVariants.{Integer, Name}
-use Rattle.scanner.specs.Grammar.{Kept, Spelled, whole, broken, and_then, read_to, numbered, a_name, one_more, in_procedure, procedure_rest, outermost, by_grammar, token}
+use Rattle.objects.specs.declared.object.Value.TheVariants.{Name}
+use Rattle.scanner.specs.Grammar.{Kept, Spelled, whole, broken, and_then, read_to, numbered, one_more, in_procedure, procedure_rest, outermost, by_grammar, token}
 use Rattle.scanner.specs.Lexemes.{Piece, ended, opening, closing, integer, name, literal, string, lexeme}
-use Rattle.scanner.specs.Stocks.{Procedures, Outcome, going, complete, last, failed, joined_to}
-use Rattle.scanner.specs.Tokens.{Scanned, refuses, none, named, by_outcome, by_piece, by_pieces, reading_on, no_procedures}
+use Rattle.scanner.specs.Stocks.{Procedures, going, failed, joined_to}
+use Rattle.scanner.specs.Tokens.{Scanned, refuses, named, by_outcome, by_piece, by_pieces, reading_on, no_procedures}
 use Rattle.scanner.specs.declared.element.Element.{Element}
-use Rattle.scanner.specs.declared.element.Element.TheVariants.{Object, String, Procedure}
+use Rattle.scanner.specs.declared.element.Element.TheVariants.{Object, String}
 use Rattle.std.proofs.lemmas.List.{length-drop}
 use Rattle.scanner.proofs.Taking.{in_lexeme}
 use Rattle.scanner.proofs.Turns.{Less, less, turn_on}

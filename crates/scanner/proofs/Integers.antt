@@ -1,5 +1,5 @@
 -- The text of an integer is read as that integer.
-use Rattle.std.proofs.Common.{◌≡◌, ℕ, suc, ◌+◌, ◌^◌, ◌<◌, ◌≤◌, Bool, true, false, cond, ◌&&◌, List, [], ◌∷◌, ◌++◌, length, ℤ, pos, negsuc, Some, Ok, decimal, sym, refl, ap, ◌∙◌, subst, arith, w32, SFits}
+use Rattle.std.proofs.Common.{◌≡◌, ℕ, suc, ◌^◌, ◌<◌, ◌≤◌, true, false, List, [], ◌∷◌, ◌++◌, length, ℤ, pos, negsuc, Some, Ok, decimal, sym, refl, ap, ◌∙◌, arith, w32, SFits}
 use Rattle.std.specs.Char.{is_ascii_digit}
 use Rattle.std.specs.Str.{all_ascii_digits}
 use Rattle.std.proofs.lemmas.Fmt.{digits_decimal, decimal_nonempty, length-decimal-le}
@@ -12,7 +12,7 @@ use Rattle.objects.specs.Decimals.{integer_text}
 use Rattle.scanner.specs.Bytes.{ends_run}
 use Rattle.scanner.specs.Laws.{Decimals-return, integer_token}
 use Rattle.scanner.specs.Lexemes.{lexeme, says, plain, of_kind, integer}
-use Rattle.scanner.specs.Runs.{run_of, past_run, within_limit, gathered}
+use Rattle.scanner.specs.Runs.{run_of, past_run, gathered}
 use Rattle.scanner.specs.Grammar.{token}
 use Rattle.scanner.specs.Tokens.{token_on, no_procedures, by_piece}
 use Rattle.scanner.proofs.Grammar.{follows_grammar}

@@ -1,10 +1,9 @@
 -- The laws of scanning.
-use Rattle.std.proofs.Common.{◌≡◌, ℕ, zero, suc, ◌+◌, ◌<◌, ◌≤◌, Bool, true, false, cond, eqb, List, [], ◌∷◌, ◌++◌, length, take, Ok, Err, Result, sym, refl, ap, ◌∙◌, subst, arith}
-use Rattle.std.proofs.lemmas.List.{append_assoc, length-append}
+use Rattle.std.proofs.Common.{◌≡◌, ℕ, zero, suc, List, [], ◌∷◌, ◌++◌, length, take, Ok, Err, Result, sym, refl, ap, ◌∙◌}
+use Rattle.std.proofs.lemmas.List.{append_assoc}
 use Rattle.std.proofs.lemmas.Bool.{cond-true, cond-false}
 use Rattle.names.specs.Names.{names_after}
 use Rattle.objects.specs.declared.fault.Fault.{Fault}
-use Rattle.scanner.specs.Bytes.{white, ends_comment, ends_run}
 use Rattle.scanner.specs.Grammar.{read_to, in_procedure, procedure_rest}
 use Rattle.scanner.specs.Laws.{Remark, silent, word, Blank, nothing, space, comment, Blanks-vanish, with_name, names_on, Names-join}
 use Rattle.scanner.specs.Lexemes.{Piece, ended, opening, closing, integer, name, literal, string, Reading, lexeme, begun, skipped, past_comment}

@@ -1,6 +1,6 @@
 -- A token's places lie inside what it takes.
-use Rattle.std.proofs.Common.{◌≡◌, ℕ, zero, suc, ◌+◌, ◌-◌, ◌<◌, ◌≤◌, Bool, true, false, cond, ◌&&◌, ◌||◌, eqb, ltb, List, [], ◌∷◌, ◌++◌, length, Ok, Err, Result, sym, refl, ap, ◌∙◌, subst, arith}
-use Rattle.std.specs.List.{AllByRecursion as All}
+use Rattle.std.proofs.Common.{◌≡◌, ℕ, zero, suc, ◌+◌, ◌-◌, ◌≤◌, Bool, true, false, cond, ◌&&◌, ◌||◌, eqb, ltb, List, [], ◌∷◌, ◌++◌, length, Ok, Err, Result, refl, arith}
+use Rattle.std.specs.List.{AllByRecursion}
 use Rattle.std.proofs.ByRecursion.{All-append, All-push, All-weaker}
 use Rattle.std.proofs.lemmas.List.{length_push, length-append}
 use Rattle.std.proofs.lemmas.Bool.{cond_both, ltb-true}
@@ -8,7 +8,7 @@ use Rattle.names.specs.Names.{join_answer}
 use Rattle.objects.specs.declared.fault.Fault.{Fault}
 use Rattle.objects.specs.declared.object.Value.TheVariants.{Name}
 use Rattle.scanner.specs.Lexemes.{Piece, ended, opening, closing, integer, name, literal, string, Reading, room, escape, lexeme, skipped, begun, body, escaped}
-use Rattle.scanner.specs.Sound.{Inside, Whole, Sound}
+use Rattle.scanner.specs.Sound.{Inside, Sound}
 use Rattle.scanner.specs.Stocks.{Procedures, Outcome, going, complete, last, failed, opened, joined_to, closed_over, finished_in}
 use Rattle.scanner.specs.Tokens.{Scanned, named, met, names_met, by_outcome, by_piece, token_on, by_pieces, no_procedures}
 use Rattle.scanner.specs.declared.element.Element.{Element}
@@ -24,17 +24,17 @@ total [] = 0
 total (es ∷ l) = length es + total l
 
 abbrev Pends : ℕ → ℕ → List (List Element) → Type 0
-Pends a b l = All (All (Inside a b)) l
+Pends a b l = AllByRecursion (AllByRecursion (Inside a b)) l
 
-all_more : (a a' b b' : ℕ) → a ≤ a' → b ≤ b' → (es : List Element) → All (Inside a b) es → All (Inside a' b') es
+all_more : (a a' b b' : ℕ) → a ≤ a' → b ≤ b' → (es : List Element) → AllByRecursion (Inside a b) es → AllByRecursion (Inside a' b') es
 all_more a a' b b' h k es i = All-weaker (Inside a b) (Inside a' b') (inside_more a a' b b' h k) es i
 
 pends_more : (a a' b b' : ℕ) → a ≤ a' → b ≤ b' → (l : List (List Element)) → Pends a b l → Pends a' b' l
-pends_more a a' b b' h k l i = All-weaker (All (Inside a b)) (All (Inside a' b')) (all_more a a' b b' h k) l i
+pends_more a a' b b' h k l i = All-weaker (AllByRecursion (Inside a b)) (AllByRecursion (Inside a' b')) (all_more a a' b b' h k) l i
 
 -- all elements so far lie inside, and are counted
 record Well (p : Procedures) (bytes : ℕ) : Type 0 where
-  inner : All (Inside (length p.shut) bytes) p.shut
+  inner : AllByRecursion (Inside (length p.shut) bytes) p.shut
   around : Pends (length p.shut) bytes p.pending
   counted : length p.shut + total p.pending ≡ p.count
   few : p.count ≤ 512

@@ -1,12 +1,12 @@
 -- What the definition of a piece does at one byte.
-use Rattle.std.proofs.Common.{◌≡◌, ℕ, ◌+◌, ◌-◌, ◌≤◌, Bool, true, false, cond, ◌&&◌, ◌||◌, eqb, ◌⊎◌, List, [], ◌∷◌, ◌++◌, Some, Ok, Err, Option, Result, sym, refl, ap, ◌∙◌, inl, inr, arith}
+use Rattle.std.proofs.Common.{◌≡◌, ℕ, ◌+◌, ◌-◌, Bool, true, false, cond, ◌&&◌, ◌||◌, eqb, ◌⊎◌, List, [], ◌∷◌, ◌++◌, Some, Ok, Err, Option, Result, sym, refl, ap, ◌∙◌, inl, inr, arith}
 use Rattle.std.proofs.lemmas.List.{append-nil, append_assoc, length-append}
 use Rattle.std.proofs.lemmas.Bool.{cond-true, cond-false}
 use Rattle.std.proofs.lemmas.Bool.Decides.{nat_tests}
 use Rattle.objects.specs.declared.fault.Fault.{Fault}
 use Rattle.objects.specs.declared.fault.Fault.TheVariants.{SyntaxError}
 use Rattle.scanner.specs.Bytes.{white, ends_comment, ends_run}
-use Rattle.scanner.specs.Lexemes.{Piece, Reading, says, room, escape, skipped, past_comment, begun, body, escaped, plain, slashed, ended, string, name, opening, closing}
+use Rattle.scanner.specs.Lexemes.{Piece, says, room, escape, skipped, past_comment, begun, body, escaped, plain, slashed, ended, string, name, opening, closing}
 use Rattle.scanner.specs.Machine.{reading}
 use Rattle.scanner.specs.declared.state.State.{State}
 use Rattle.scanner.specs.declared.state.State.TheVariants.{Between, Comment, Plain, Slashed, Text, Escaped}

@@ -1,9 +1,9 @@
 -- The elements of open procedures, one behind the other.
 use Rattle.std.proofs.Common.{◌≡◌, ℕ, suc, ◌+◌, ◌-◌, ◌<◌, ◌≤◌, List, [], ◌∷◌, ◌++◌, reverse, length, get_or, take, drop, set, sym, refl, ap, ◌∙◌, subst, add_assoc, arith}
-use Rattle.std.proofs.lemmas.List.{take_more_set, take_more, take_all, drop_all, append_assoc, reverse-append, length-append, length-drop, length-take, length-reverse, length-take-le, get_or-drop, drop-append-le, take-append-le, drop-take, take-take}
+use Rattle.std.proofs.lemmas.List.{take_more_set, take_more, take_all, drop_all, append_assoc, reverse-append, length-append, length-drop, length-reverse, length-take-le, get_or-drop, drop-append-le, take-append-le, drop-take, take-take}
 use Rattle.std.proofs.lemmas.Bool.{cond-true, cond-false, lt-ltb, le-ltb}
 use Rattle.objects.specs.declared.fault.Fault.TheVariants.{SyntaxError, LimitCheck}
-use Rattle.scanner.specs.Stocks.{Procedures, Outcome, going, complete, last, failed, opened, finished, finished_in, joined_to, ended_element, closed_over, closed, levels}
+use Rattle.scanner.specs.Stocks.{going, complete, last, failed, opened, finished, finished_in, joined_to, ended_element, closed_over, closed, levels}
 use Rattle.scanner.specs.declared.element.Element.{Element}
 use Rattle.scanner.specs.declared.element.Element.TheVariants.{Procedure}
 

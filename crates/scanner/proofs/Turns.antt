@@ -1,5 +1,5 @@
 -- One piece of a token, and then more.
-use Rattle.std.proofs.Common.{◌≡◌, ℕ, zero, suc, ◌+◌, ◌<◌, ◌≤◌, List, [], ◌∷◌, length, take, Some, None, Ok, Err, Option, Result, sym, refl, ap, ◌∙◌, subst, ⊎_elim, arith}
+use Rattle.std.proofs.Common.{◌≡◌, ℕ, zero, suc, ◌<◌, ◌≤◌, List, [], ◌∷◌, length, take, Some, None, Ok, Err, Option, Result, sym, refl, ap, ◌∙◌, subst, ⊎_elim, arith}
 use Rattle.objects.specs.declared.fault.Fault.{Fault}
 use Rattle.scanner.specs.Lexemes.{Piece, ended, opening, closing, integer, name, literal, string, says, lexeme}
 use Rattle.scanner.specs.Stocks.{Procedures, Outcome, going, complete, last, failed, finished_in}

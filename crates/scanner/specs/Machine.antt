@@ -1,7 +1,6 @@
 -- What a state of the scanner means: what reading gives from there on.
-use Rattle.std.specs.Prelude.{◌≡◌, ℕ, Bool, cond, List, ◌∷◌, length, take, Ok, Err, Option, Result}
+use Rattle.std.specs.Prelude.{◌≡◌, ℕ, List, ◌∷◌, length, take, Ok, Err, Option, Result}
 use Rattle.objects.specs.declared.fault.Fault.{Fault}
-use Rattle.objects.specs.declared.fault.Fault.TheVariants.{LimitCheck}
 use Rattle.scanner.specs.Gathered.{kept, so_far}
 use Rattle.scanner.specs.Lexemes.{Piece, ended, opening, closing, integer, name, literal, string, Reading, says, begun, skipped, past_comment, body, escaped, plain, slashed}
 use Rattle.scanner.specs.Runs.{run_of, past_run, gathered}

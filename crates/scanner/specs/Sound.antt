@@ -1,6 +1,6 @@
 -- What whoever takes memory for a token may rely on: it says how much it needs, and its places lie inside that.
 use Rattle.std.specs.Prelude.{◌≡◌, ℕ, ◌+◌, ◌≤◌, List, length, Some, None, Ok, Err, Option, Result}
-use Rattle.std.specs.List.{AllByRecursion as All}
+use Rattle.std.specs.List.{AllByRecursion}
 use Rattle.objects.specs.declared.fault.Fault.{Fault}
 use Rattle.scanner.specs.Tokens.{Scanned}
 use Rattle.scanner.specs.declared.element.Element.{Element}
@@ -19,7 +19,7 @@ pub record Whole (t : Token) (slots : List Element) (bytes : List ℕ) : Type 0 
   pub few_slots : length slots ≤ 512
   pub few_bytes : length bytes ≤ 1024
   pub itself : Inside (length slots) (length bytes) t.element
-  pub each : All (Inside (length slots) (length bytes)) slots
+  pub each : AllByRecursion (Inside (length slots) (length bytes)) slots
 
 abbrev pub Sound-answer : Result (Option Token) Fault → List Element → List ℕ → Type 0
 Sound-answer (Ok (Some t)) slots bytes = Whole t slots bytes

@@ -1,10 +1,10 @@
 -- A token, piece by piece: each piece goes to the procedure that is open, and the outermost element that ends is the token.
-use Rattle.std.specs.Prelude.{ℕ, zero, suc, ◌+◌, ◌-◌, Bool, true, false, List, [], ◌∷◌, length, Some, None, Ok, Err, Option, Result}
+use Rattle.std.specs.Prelude.{ℕ, zero, suc, ◌-◌, Bool, true, false, List, [], length, Some, None, Ok, Err, Option, Result}
 use Rattle.names.specs.Names.{join_answer, names_joined}
 use Rattle.objects.specs.declared.fault.Fault.{Fault}
 use Rattle.objects.specs.declared.fault.Fault.TheVariants.{SyntaxError}
 use Rattle.objects.specs.declared.object.Value.TheVariants.{Integer, Name}
-use Rattle.scanner.specs.Lexemes.{Piece, ended, opening, closing, integer, name, literal, string, Reading, lexeme}
+use Rattle.scanner.specs.Lexemes.{Piece, ended, opening, closing, integer, name, literal, string, lexeme}
 use Rattle.scanner.specs.Stocks.{Procedures, Outcome, going, complete, last, failed, opened, closed, finished, ended_element}
 use Rattle.scanner.specs.declared.element.Element.{Element}
 use Rattle.scanner.specs.declared.element.Element.TheVariants.{Object, String}

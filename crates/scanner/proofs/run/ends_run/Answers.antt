@@ -3,38 +3,38 @@ use Rattle.std.proofs.lemmas.Bool.Decides.{nat_tests}
 use Rattle.scanner.specs.Bytes.{ends_run}
 use Rattle.scanner.proofs.run.ends_run.Goals as goal
 
-pub returns-in-default : goal.returns-in-default
+pub returns-in_default : goal.returns-in_default
 unfolding ends_run
-returns-in-default c = grind (arith, nat_tests)
+returns-in_default c = grind (arith, nat_tests)
 
-pub returns-in-default·2 : goal.returns-in-default·2
+pub returns-in_default-2 : goal.returns-in_default-2
 unfolding ends_run
-returns-in-default·2 c = grind (arith, nat_tests)
+returns-in_default-2 c = grind (arith, nat_tests)
 
-pub returns-in-default·3 : goal.returns-in-default·3
+pub returns-in_default-3 : goal.returns-in_default-3
 unfolding ends_run
-returns-in-default·3 c = grind (arith, nat_tests)
+returns-in_default-3 c = grind (arith, nat_tests)
 
-pub returns-in-default·4 : goal.returns-in-default·4
+pub returns-in_default-4 : goal.returns-in_default-4
 unfolding ends_run
-returns-in-default·4 c = grind (arith, nat_tests)
+returns-in_default-4 c = grind (arith, nat_tests)
 
 pub returns-in-40 : goal.returns-in-40
 unfolding ends_run
 returns-in-40 c = grind (arith, nat_tests)
 
-pub returns-in-40·2 : goal.returns-in-40·2
+pub returns-in-40-2 : goal.returns-in-40-2
 unfolding ends_run
-returns-in-40·2 c = grind (arith, nat_tests)
+returns-in-40-2 c = grind (arith, nat_tests)
 
 pub returns-in-0 : goal.returns-in-0
 unfolding ends_run
 returns-in-0 c = grind (arith, nat_tests)
 
-pub returns-in-0·2 : goal.returns-in-0·2
+pub returns-in-0-2 : goal.returns-in-0-2
 unfolding ends_run
-returns-in-0·2 c = grind (arith, nat_tests)
+returns-in-0-2 c = grind (arith, nat_tests)
 
-pub returns-in-0·3 : goal.returns-in-0·3
+pub returns-in-0-3 : goal.returns-in-0-3
 unfolding ends_run
-returns-in-0·3 c = grind (arith, nat_tests)
+returns-in-0-3 c = grind (arith, nat_tests)

@@ -1,4 +1,4 @@
-use Rattle.std.proofs.Common.{suc, ◌<◌, length, take, Ok, sym, refl, ap, ◌∙◌, arith}
+use Rattle.std.proofs.Common.{suc, length, Ok, sym, refl, ap, ◌∙◌, arith}
 use Rattle.names.specs.Table.{model}
 use Rattle.std.proofs.lemmas.List.{length-take}
 use Rattle.scanner.specs.Reads.{in_progress, strings_read, went_on}

@@ -51,11 +51,11 @@ returns-in-Between-eq41 c = record { goes = λ bs. grind (arith, nat_tests, at_b
 pub returns-in-Between-eq0 : goal.returns-in-Between-eq0
 returns-in-Between-eq0 c = record { goes = λ bs. grind (arith, nat_tests, at_between); within = λ e. grind arith; counted = λ h. h }
 
-pub returns-in-Between-eq0·2 : goal.returns-in-Between-eq0·2
-returns-in-Between-eq0·2 c = record { goes = λ bs. grind (arith, nat_tests, at_between); within = λ e. grind arith; counted = λ h. h }
+pub returns-in-Between-eq0-2 : goal.returns-in-Between-eq0-2
+returns-in-Between-eq0-2 c = record { goes = λ bs. grind (arith, nat_tests, at_between); within = λ e. grind arith; counted = λ h. h }
 
-pub returns-in-Between-eq0·3 : goal.returns-in-Between-eq0·3
-returns-in-Between-eq0·3 c = record { goes = λ bs. grind (arith, nat_tests, at_between); within = λ e. grind arith; counted = λ h. h }
+pub returns-in-Between-eq0-3 : goal.returns-in-Between-eq0-3
+returns-in-Between-eq0-3 c = record { goes = λ bs. grind (arith, nat_tests, at_between); within = λ e. grind arith; counted = λ h. h }
 
 pub returns-in-Between-default : goal.returns-in-Between-default
 unfolding ends_run
@@ -70,8 +70,8 @@ returns-in-Between-default c =
 pub returns-in-Comment-default : goal.returns-in-Comment-default
 returns-in-Comment-default c = record { goes = λ bs. grind (arith, nat_tests, at_comment); within = λ e. grind arith; counted = λ h. h }
 
-pub returns-in-Comment-default·2 : goal.returns-in-Comment-default·2
-returns-in-Comment-default·2 c = record { goes = λ bs. grind (arith, nat_tests, at_comment); within = λ e. grind arith; counted = λ h. h }
+pub returns-in-Comment-default-2 : goal.returns-in-Comment-default-2
+returns-in-Comment-default-2 c = record { goes = λ bs. grind (arith, nat_tests, at_comment); within = λ e. grind arith; counted = λ h. h }
 
 pub returns-in-Comment-eq10 : goal.returns-in-Comment-eq10
 returns-in-Comment-eq10 c =
@@ -128,8 +128,8 @@ returns-in-Text-eq92 c =
 pub returns-in-Text-eq0-default-eq41 : goal.returns-in-Text-eq0-default-eq41
 returns-in-Text-eq0-default-eq41 c = record { goes = λ bs. grind (arith, nat_tests, at_body); within = λ e. grind arith; counted = λ h. h }
 
-pub returns-in-Text-eq0-default-eq41·2 : goal.returns-in-Text-eq0-default-eq41·2
-returns-in-Text-eq0-default-eq41·2 c = record { goes = λ bs. grind (arith, nat_tests, at_body); within = λ e. grind arith; counted = λ h. h }
+pub returns-in-Text-eq0-default-eq41-2 : goal.returns-in-Text-eq0-default-eq41-2
+returns-in-Text-eq0-default-eq41-2 c = record { goes = λ bs. grind (arith, nat_tests, at_body); within = λ e. grind arith; counted = λ h. h }
 
 pub returns-in-Text-eq41 : goal.returns-in-Text-eq41
 returns-in-Text-eq41 c =

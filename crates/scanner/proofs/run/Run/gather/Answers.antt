@@ -3,8 +3,8 @@ use Rattle.std.proofs.lemmas.Bool.Decides.{nat_tests}
 use Rattle.std.proofs.lemmas.List.{take_more_set, length-take}
 use Rattle.scanner.proofs.run.Run.gather.Goals as goal
 
-pub returns-then-self-lt-LONGEST-RUN : goal.returns-then-self-lt-LONGEST-RUN
-returns-then-self-lt-LONGEST-RUN c = grind (arith, nat_tests, take_more_set, length-take)
+pub returns-then-self-lt-LONGEST_RUN : goal.returns-then-self-lt-LONGEST_RUN
+returns-then-self-lt-LONGEST_RUN c = grind (arith, nat_tests, take_more_set, length-take)
 
-pub returns-else-self-lt-LONGEST-RUN : goal.returns-else-self-lt-LONGEST-RUN
-returns-else-self-lt-LONGEST-RUN c = grind (arith, nat_tests, take_more_set, length-take)
+pub returns-else-self-lt-LONGEST_RUN : goal.returns-else-self-lt-LONGEST_RUN
+returns-else-self-lt-LONGEST_RUN c = grind (arith, nat_tests, take_more_set, length-take)

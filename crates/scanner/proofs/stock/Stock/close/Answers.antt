@@ -1,4 +1,4 @@
-use Rattle.std.proofs.Common.{◌≡◌, ◌+◌, ◌-◌, get_or, take, refl, ◌∙◌, arith}
+use Rattle.std.proofs.Common.{◌≡◌, ◌-◌, get_or, take, refl, ◌∙◌, arith}
 use Rattle.std.proofs.lemmas.List.{length-take-le}
 use Rattle.scanner.proofs.Stocks.{stray, close_goes}
 use Rattle.scanner.proofs.stock.Stock.close.Goals as goal
@@ -9,7 +9,7 @@ returns-then-depth-eq0 c = stray _ _ c.args.self.now.sizes _ c.args.tally.now.de
 pub returns : goal.returns
 returns c =
     let t = c.args.tally.now in
-    let start = c.saturating-sub-start.result in
+    let start = c.saturating_sub-start.result in
     let begins : start ≡ t.pending - get_or c.args.self.now.sizes (t.depth - 1) 0 = omega arith in
-    c.end-element.ensures
-    ∙ close_goes (take t.done c.args.self.now.done) c.args.self.now.sizes t.depth (t.depth - 1) (omega arith) (omega arith) t.done t.pending start (t.pending - start) c.args.self.now.pending _ (omega arith) (length-take-le t.done c.args.self.now.done (omega arith)) begins refl c.copy-over.ensures
+    c.end_element.ensures
+    ∙ close_goes (take t.done c.args.self.now.done) c.args.self.now.sizes t.depth (t.depth - 1) (omega arith) (omega arith) t.done t.pending start (t.pending - start) c.args.self.now.pending _ (omega arith) (length-take-le t.done c.args.self.now.done (omega arith)) begins refl c.copy_over.ensures

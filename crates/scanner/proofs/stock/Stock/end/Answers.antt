@@ -1,4 +1,4 @@
-use Rattle.std.proofs.Common.{◌+◌, ◌-◌, [], arith}
+use Rattle.std.proofs.Common.{◌-◌, [], arith}
 use Rattle.scanner.proofs.Stocks.{end_finished, end_unfinished}
 use Rattle.scanner.proofs.stock.Stock.end.Goals as goal
 
