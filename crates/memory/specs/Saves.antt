@@ -1,5 +1,5 @@
 -- Saves by their numbers: what making one and going back to one mean.
-use Rattle.std.specs.Prelude.{◌≡◌, ℕ, ◌+◌, ◌<◌, ◌≤◌, ◌⊎◌, List, [], ◌∷◌, ◌++◌, length, get_or, take, Ok, Err, Result, ◌≢◌, slice_index_or}
+use Rattle.std.specs.Prelude.{◌≡◌, ℕ, ◌+◌, ◌<◌, ◌≤◌, ◌⊎◌, List, [], ◌∷◌, ◌++◌, length, take, Ok, Err, Result, ◌≢◌, slice_index_or}
 use Rattle.objects.specs.Outcomes.{after, heard}
 use Rattle.objects.specs.declared.fault.Fault.{Fault}
 use Rattle.objects.specs.declared.fault.Fault.TheVariants.{LimitCheck, InvalidRestore}
@@ -11,12 +11,12 @@ use Rattle.memory.specs.declared.saves.Saved.{Saved}
 -- save i, counted from the oldest, is the first open one with number n
 pub record OpenAt (n : ℕ) (ss : List Saved) (i : ℕ) : Type 0 where
   pub inside : i < length ss
-  pub numbered : (get_or ss i no_save).number ≡ n
-  pub first : (j : ℕ) → j < i → (get_or ss j no_save).number ≢ n
+  pub numbered : (slice_index_or ss i no_save).number ≡ n
+  pub first : (j : ℕ) → j < i → (slice_index_or ss j no_save).number ≢ n
 
 -- no open save has number n
 abbrev pub NoneOpen : ℕ → List Saved → Type 0
-NoneOpen n ss = (j : ℕ) → j < length ss → (get_or ss j no_save).number ≢ n
+NoneOpen n ss = (j : ℕ) → j < length ss → (slice_index_or ss j no_save).number ≢ n
 
 -- going back to save n from a later memory is accepted and gives what an old one had: slots, levels, tops and saves; the bytes stay as met
 pub record ComesBack (old later : InUse) (n : ℕ) : Type 0 where
@@ -68,8 +68,8 @@ pub record WentBack (old new : InUse) (n : ℕ) : Type 0 where
   pub named : OpenAt n old.saves place
   pub open_level : place < length old.kept.levels
   pub saves : new.saves ≡ take place old.saves
-  pub slot_top : new.slot_top ≡ (get_or old.saves place no_save).slot_top
-  pub byte_top : new.byte_top ≡ (get_or old.saves place no_save).byte_top
+  pub slot_top : new.slot_top ≡ (slice_index_or old.saves place no_save).slot_top
+  pub byte_top : new.byte_top ≡ (slice_index_or old.saves place no_save).byte_top
   pub slots : new.kept.slots ≡ slice_index_or old.kept.levels place []
   pub levels : new.kept.levels ≡ take place old.kept.levels
   pub bytes : new.kept.bytes ≡ old.kept.bytes

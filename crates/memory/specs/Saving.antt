@@ -1,5 +1,5 @@
 -- Saves: numbered from 1, each opening a level and recording both tops.
-use Rattle.std.specs.Prelude.{ℕ, ◌+◌, Bool, cond, ◌&&◌, List, [], ◌∷◌, ◌++◌, length, get_or, take, Some, None, Ok, Err, Option, Result, ◌==◌, nat_lt, slice_index_or}
+use Rattle.std.specs.Prelude.{ℕ, ◌+◌, Bool, cond, ◌&&◌, List, [], ◌∷◌, ◌++◌, length, take, Some, None, Ok, Err, Option, Result, ◌==◌, nat_lt, slice_index_or}
 use Rattle.objects.specs.declared.fault.Fault.{Fault}
 use Rattle.objects.specs.declared.fault.Fault.TheVariants.{LimitCheck, InvalidRestore}
 use Rattle.keepers.specs.Kept.{Kept, open_level, back_to}
@@ -55,8 +55,8 @@ saved_as number ss = saved_at ss (save_place number ss)
 abbrev pub returned : InUse → ℕ → Kept → InUse
 returned m i k = record {
   kept = k;
-  slot_top = (get_or m.saves i no_save).slot_top;
-  byte_top = (get_or m.saves i no_save).byte_top;
+  slot_top = (slice_index_or m.saves i no_save).slot_top;
+  byte_top = (slice_index_or m.saves i no_save).byte_top;
   saves = take i m.saves;
   made = m.made;
 }
