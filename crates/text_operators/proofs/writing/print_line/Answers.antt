@@ -7,7 +7,7 @@ use Rattle.text_operators.proofs.writing.print_line.Goals as goal
 pub returns-in-Err : goal.returns-in-Err
 returns-in-Err g c =
     let s = state_of g.K.Keeper.kept c.args.machine.now in
-    let text = bytes_of c.object-text-text.result s.memory in
-    let refusal = line_refused s c.in-ok-object.object text c.in-Err.fault (printed c.write-line.new.output)
-    c.in-ok-object.ensures (c.object-text-text.ensures s.memory) c.in-Err.ensures.answer c.in-Err.ensures.state in
+    let text = bytes_of c.object_text-text.result s.memory in
+    let refusal = line_refused s c.in_ok-object.object text c.in-Err.fault (printed c.write_line.new.output)
+    c.in_ok-object.ensures (c.object_text-text.ensures s.memory) c.in-Err.ensures.answer c.in-Err.ensures.state in
     record { answer = refusal.answer; state = refusal.state; grows = refusal.grows }

@@ -16,5 +16,5 @@ pub returns : goal.returns
 returns g c =
     let m = memory_of g.K.Keeper.kept c.args.memory.now in
     let size = c.len.ensures m in
-    let out = line_fits (bytes_of c.args.text m) (printed c.args.output.now) (printed c.append.new.output) (printed c.end-line.new.output) (omega arith) c.append.ensures c.end-line.ensures in
+    let out = line_fits (bytes_of c.args.text m) (printed c.args.output.now) (printed c.append.new.output) (printed c.end_line.new.output) (omega arith) c.append.ensures c.end_line.ensures in
     record { answer = out.answer; state = out.state }
