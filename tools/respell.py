@@ -1,17 +1,18 @@
 #!/usr/bin/env python3
-"""Brings the repository's own definitions and lemmas to snake case: `get-slot` becomes `get_slot`.
+"""Brings the repository's own definitions, lemmas and types to today's spelling: `get-slot` becomes `get_slot`, and a type `Blanks-vanish` becomes `BlanksVanish`.
 
-Run once, at the top of the repository, after the kit's port.py and before any edit by hand. It renames what the .antt files of
-crates/ declare (definitions, lemmas, constructors, fields of records), where they are declared and where they are cited: in .antt
-files, and in the clauses, ghost items and `ghost use` lines of .rt files. Names that Rattle makes (goals, steps) and names that a file takes
-from a library keep their spelling. Functions of src/, strings, comments of .rt files, inputs and outputs are not touched.
-A new name that is taken already, by a field, a constant or a parameter of src/, gets `_of` after it; the script prints those.
+usage: python3 tools/respell.py [TOP] [--dry]      (once, after the kit's port.py and before any edit by hand)
+
+It renames what the .antt files of crates/ declare at the top, as a field or as a constructor, where it is declared and where it is cited: in .antt
+files, and in the clauses, ghost items and `ghost use` lines of .rt files. A name that a file takes from a library keeps its spelling there, and so do answers to goals.
+Functions of src/, strings, comments, inputs and outputs are not touched. It prints each new name that something else has already, and each that looks
+like a name that Rattle makes, and renames them all the same: read those lines. --dry prints them and writes nothing.
 """
 import os, re, sys
 
-TOP = sys.argv[1] if len(sys.argv) > 1 else "."
-WORD = r"[\w'’-]"
-NAME = re.compile(r"(?<![\w'’«-])([a-z][\w'’]*(?:-[\w'’]+)+)(?![\w'’-])")
+TOP = next((a for a in sys.argv[1:] if a != "--dry"), ".")
+NAME = re.compile(r"(?<![\w'’«-])([A-Za-z][\w'’]*(?:-[\w'’]+)+)(?![\w'’-])")
+TYPE = re.compile(r"(?m)^(?:pub |abbrev |unfoldable |record |data )*([A-Z]\w*(?:-\w+)+)\s*(?:\{[^}]*\}\s*|\([^)]*\)\s*)*:")
 KEEP = re.compile(r"^(then|else|loop|if|match|invariant|decreases|returns|overflow|index|requires|ensures|in|let|on|for|while|underflow|cast|div)-")
 
 
@@ -38,6 +39,7 @@ def declared(text):
         if re.match(r"(goal|need|needs|given)\.", m.group(3)):
             continue
         out.add(m.group(2))
+    out |= set(TYPE.findall(text))
     for m in re.finditer(r"(?m)^\s*(?:pub )?ruleset ([a-z][\w'’]*(?:-[\w'’]+)+)", text):
         out.add(m.group(1))
     return out
@@ -74,6 +76,8 @@ def main():
     new = {}
     for n in sorted(names):
         to = n.replace("-", "_")
+        if n[0].isupper():
+            to = "".join(w[0].upper() + w[1:] for w in n.split("-"))
         why = None
         if to in taken:
             why = "declared"

@@ -6,7 +6,7 @@ use Rattle.objects.specs.declared.object.Object.{Object}
 use Rattle.memory.specs.declared.saves.Saved.{Saved}
 use Rattle.keepers.specs.Kept.{Kept, blank, with_slots, with_bytes}
 
--- slot-top, byte-top: how many slots and bytes are in use; saves: the open ones, oldest first; made: how many saves there ever were
+-- slot_top, byte_top: how many slots and bytes are in use; saves: the open ones, oldest first; made: how many saves there ever were
 pub record InUse : Type 0 where
   pub kept : Kept
   pub slot_top : ℕ

@@ -2,3 +2,4 @@ pub mod Decimals
 pub mod Faults
 pub mod Integers
 pub mod Operators
+pub mod Same

@@ -2,6 +2,7 @@
 
 pub mod decimal;
 pub mod decimal_text;
+pub mod equality;
 pub mod fault;
 pub mod integer;
 pub mod object;

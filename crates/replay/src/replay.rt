@@ -65,7 +65,7 @@ fn print_scene(rt: &HostRuntime, scene: Scene) -> io::Result<()> {
 }
 
 fn verdict(found: Scene, saved: Scene) -> &'static str {
-    if found == saved {
+    if found.same_as(saved) {
         "as saved"
     } else {
         "DIFFERENT"

@@ -1,4 +1,6 @@
 // The two slots that the story is about.
+ghost use Rattle.std.specs.Prelude.{◌≡◌, Decides};
+
 use crate::phase::phase_of;
 use keepers::keeper::Keeper;
 use objects::fault::Fault;
@@ -24,6 +26,13 @@ impl Scene {
         let phase = keeper.slot(PHASE)?;
         let modifier = keeper.slot(MODIFIER)?;
         Ok(Scene { phase, modifier })
+    }
+
+    // Whether the two scenes are the same.
+    pub fn same_as(self, other: Scene) -> bool
+        ensures { Decides result (self ≡ other) }
+    {
+        self == other
     }
 
     pub fn phase_word(self) -> &'static str {

@@ -7,7 +7,7 @@ use Rattle.objects.specs.declared.fault.Fault.TheVariants.{SyntaxError, LimitChe
 use Rattle.scanner.specs.Bytes.{white, ends_comment, ends_run}
 use Rattle.scanner.specs.Lexemes.{Piece, opening, closing, name, string, Reading, says, escape, lexeme, skipped, past_comment, begun, body, escaped, plain, slashed}
 use Rattle.scanner.specs.Runs.{run_of, past_run, within_limit}
-use Rattle.scanner.specs.Laws.{but_left, Stands-alone}
+use Rattle.scanner.specs.Laws.{but_left, StandsAlone}
 use Rattle.scanner.specs.Stocks.{Procedures, Outcome, going, complete, last, failed}
 use Rattle.scanner.specs.Tokens.{Scanned, met, names_met, gives, none, refuses, by_outcome, by_piece, token_on, by_pieces, no_procedures}
 use Rattle.scanner.proofs.Grammar.{follows_grammar}
@@ -137,7 +137,7 @@ module _ (b : ℕ) (more : List ℕ) (stop : ends_run b ≡ true) (b' : ℕ) (mo
       let right = enough (suc (length (front ++ rest'))) turns names no_procedures [] (front ++ rest') (omega arith) (omega arith) in
       right ∙ swaps_on turns names no_procedures [] front (ap (λ (s : Scanned). s.left) (sym left) ∙ e) ∙ ap (λ (s : Scanned). but_left s rest') (sym left)
 
-pub stands_alone : Stands-alone
+pub stands_alone : StandsAlone
 stands_alone names front b more b' more' stop stop' e =
     sym (follows_grammar names (front ++ b' ∷ more'))
     ∙ stands_alone_here b more stop b' more' stop' names front (ap (λ (s : Scanned). s.left) (follows_grammar names (front ++ b ∷ more)) ∙ e)

@@ -10,7 +10,7 @@ use Rattle.std.proofs.lemmas.Bool.Decides.{nat_tests}
 use Rattle.objects.proofs.Integers.{text_read}
 use Rattle.objects.specs.Decimals.{integer_text}
 use Rattle.scanner.specs.Bytes.{ends_run}
-use Rattle.scanner.specs.Laws.{Decimals-return, integer_token}
+use Rattle.scanner.specs.Laws.{DecimalsReturn, integer_token}
 use Rattle.scanner.specs.Lexemes.{lexeme, says, plain, of_kind, integer}
 use Rattle.scanner.specs.Runs.{run_of, past_run, gathered}
 use Rattle.scanner.specs.Grammar.{token}
@@ -80,7 +80,7 @@ before_stop : (z : ℤ) → SFits w32 z → (names : List (List ℕ)) (rest : Li
 unfolding token_on
 before_stop z h names rest s = sym (follows_grammar names (integer_text z ++ rest)) ∙ ap (λ r. by_piece r.said 0 names no_procedures r.strings r.left (token_on (length (integer_text z ++ rest)))) (integer_piece z h rest s)
 
-pub decimals_return : Decimals-return
+pub decimals_return : DecimalsReturn
 decimals_return = record {
   alone = λ z h names. ap (token names) (sym (append-nil (integer_text z))) ∙ before_stop z h names [] tt;
   before = λ z h names b bs e. before_stop z h names (b ∷ bs) e;

@@ -5,7 +5,7 @@ use Rattle.std.proofs.lemmas.Bool.{cond-true, cond-false}
 use Rattle.names.specs.Names.{names_after}
 use Rattle.objects.specs.declared.fault.Fault.{Fault}
 use Rattle.scanner.specs.Grammar.{read_to, in_procedure, procedure_rest}
-use Rattle.scanner.specs.Laws.{Remark, silent, word, Blank, nothing, space, comment, Blanks-vanish, with_name, names_on, Names-join}
+use Rattle.scanner.specs.Laws.{Remark, silent, word, Blank, nothing, space, comment, BlanksVanish, with_name, names_on, NamesJoin}
 use Rattle.scanner.specs.Lexemes.{Piece, ended, opening, closing, integer, name, literal, string, Reading, lexeme, begun, skipped, past_comment}
 use Rattle.scanner.specs.Stocks.{Procedures, Outcome, going, complete, last, failed, finished_in}
 use Rattle.scanner.specs.Tokens.{Scanned, met, names_met, by_outcome, by_piece, token_on, reading_on, by_pieces, no_procedures}
@@ -33,7 +33,7 @@ pieces_blank : (blank : List ℕ) → Blank blank → (names : List (List ℕ)) 
 pieces_blank blank h names bs =
     turn_on names no_procedures [] (blank ++ bs) ∙ ap (λ (r : Reading). by_piece r.said 0 names no_procedures r.strings r.left reading_on) (lexeme_blank [] blank bs h) ∙ sym (turn_on names no_procedures [] bs)
 
-pub blanks_vanish : Blanks-vanish
+pub blanks_vanish : BlanksVanish
 unfolding procedure_rest
 blanks_vanish = record {
   before = λ blank h names bs. sym (follows_grammar names (blank ++ bs)) ∙ pieces_blank blank h names bs ∙ follows_grammar names bs;
@@ -97,5 +97,5 @@ names_joined_on (suc turns) names p out bs =
     let r = lexeme out bs in
     joins_by_piece r.strings r.left (names_on turns r.strings r.left) r.said (length out) names p (token_on turns) (λ after q. names_joined_on turns after q r.strings r.left)
 
-pub names_join : (names : List (List ℕ)) (bs : List ℕ) → Names-join bs names (by_pieces names bs).names
+pub names_join : (names : List (List ℕ)) (bs : List ℕ) → NamesJoin bs names (by_pieces names bs).names
 names_join names bs = names_joined_on (suc (length bs)) names no_procedures [] bs

@@ -2,6 +2,7 @@ pub mod Cutting
 pub mod Grammar
 pub mod Integers
 pub mod Laws
+pub mod Same
 pub mod Shorter
 pub mod Soundness
 pub mod Steps

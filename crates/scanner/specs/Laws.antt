@@ -27,7 +27,7 @@ pub data Blank : List ℕ → Type 0 where
   comment : (remark : List ℕ) (b : ℕ) (bs : List ℕ) → Remark remark → ends_comment b ≡ true → Blank bs → Blank (37 ∷ (remark ++ b ∷ bs))
 
 -- Blanks do not matter before a token, nor before a piece of a procedure.
-pub record Blanks-vanish : Type 0 where
+pub record BlanksVanish : Type 0 where
   pub before : (blank : List ℕ) → Blank blank → (names : List (List ℕ)) (bs : List ℕ) → token names (blank ++ bs) ≡ token names bs
   pub inside : (blank : List ℕ) → Blank blank → (turns depth : ℕ) (mine : List Element) (k : Kept) (bs : List ℕ) → procedure_rest (suc turns) depth mine (with_left k (blank ++ bs)) ≡ procedure_rest (suc turns) depth mine (with_left k bs)
 
@@ -50,8 +50,8 @@ abbrev pub names_of : List ℕ → List (List ℕ)
 names_of bs = names_on (suc (length bs)) [] bs
 
 -- The names that a token leaves, whether it is whole or fails, are those before it, joined by the first so many names of the text.
-abbrev pub Names-join : List ℕ → List (List ℕ) → List (List ℕ) → Type 0
-Names-join bs before after = (k : ℕ) × (after ≡ names_after (take k (names_of bs)) before)
+abbrev pub NamesJoin : List ℕ → List (List ℕ) → List (List ℕ) → Type 0
+NamesJoin bs before after = (k : ℕ) × (after ≡ names_after (take k (names_of bs)) before)
 
 -- A token takes bytes from the front of the source, and nothing else.
 abbrev pub Taken : List ℕ → List ℕ → Type 0
@@ -62,13 +62,13 @@ but_left s bs = record { answer = s.answer; slots = s.slots; bytes = s.bytes; na
 
 -- A token hangs on the bytes that it takes, whole or not, and on the byte behind them only in that it ends a run:
 -- whatever else comes there, the token is the same. So it does not matter which blanks stand between two tokens.
-abbrev pub Stands-alone : Type 0
-Stands-alone = (names : List (List ℕ)) (front : List ℕ) (b : ℕ) (more : List ℕ) (b' : ℕ) (more' : List ℕ) → ends_run b ≡ true → ends_run b' ≡ true → (token names (front ++ b ∷ more)).left ≡ b ∷ more → token names (front ++ b' ∷ more') ≡ but_left (token names (front ++ b ∷ more)) (b' ∷ more')
+abbrev pub StandsAlone : Type 0
+StandsAlone = (names : List (List ℕ)) (front : List ℕ) (b : ℕ) (more : List ℕ) (b' : ℕ) (more' : List ℕ) → ends_run b ≡ true → ends_run b' ≡ true → (token names (front ++ b ∷ more)).left ≡ b ∷ more → token names (front ++ b' ∷ more') ≡ but_left (token names (front ++ b ∷ more)) (b' ∷ more')
 
 abbrev pub integer_token : ℤ → List (List ℕ) → List ℕ → Scanned
 integer_token z names bs = gives (Object (record { value = Integer z; executable = false })) no_procedures names [] bs
 
 -- The text of an integer is read as that integer, and exactly its bytes are taken: at the end of the source, and before any byte that ends a run.
-pub record Decimals-return : Type 0 where
+pub record DecimalsReturn : Type 0 where
   pub alone : (z : ℤ) → FitsSigned w32 z → (names : List (List ℕ)) → token names (integer_text z) ≡ integer_token z names []
   pub before : (z : ℤ) → FitsSigned w32 z → (names : List (List ℕ)) (b : ℕ) (bs : List ℕ) → ends_run b ≡ true → token names (integer_text z ++ b ∷ bs) ≡ integer_token z names (b ∷ bs)

@@ -21,10 +21,10 @@ pub record Whole (t : Token) (slots : List Element) (bytes : List ℕ) : Type 0 
   pub itself : Inside (length slots) (length bytes) t.element
   pub each : AllByRecursion (Inside (length slots) (length bytes)) slots
 
-abbrev pub Sound-answer : Result (Option Token) Fault → List Element → List ℕ → Type 0
-Sound-answer (Ok (Some t)) slots bytes = Whole t slots bytes
-Sound-answer (Ok None) slots bytes = Unit {0}
-Sound-answer (Err f) slots bytes = Unit {0}
+abbrev pub SoundAnswer : Result (Option Token) Fault → List Element → List ℕ → Type 0
+SoundAnswer (Ok (Some t)) slots bytes = Whole t slots bytes
+SoundAnswer (Ok None) slots bytes = Unit {0}
+SoundAnswer (Err f) slots bytes = Unit {0}
 
 abbrev pub Sound : Scanned → Type 0
-Sound s = Sound-answer s.answer s.slots s.bytes
+Sound s = SoundAnswer s.answer s.slots s.bytes

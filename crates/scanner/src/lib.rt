@@ -3,6 +3,7 @@
 pub mod buffers;
 pub mod counts;
 pub mod element;
+pub mod equality;
 pub mod guard;
 pub mod lexer;
 pub mod place;

@@ -2,7 +2,7 @@
 ghost use Rattle.std.specs.Prelude.{◌≡◌, take};
 ghost use Rattle.names.specs.Table.{model};
 ghost use Rattle.scanner.specs.Grammar.{token};
-ghost use Rattle.scanner.specs.Laws.{Names-join, Taken, Blanks-vanish, Stands-alone, Decimals-return};
+ghost use Rattle.scanner.specs.Laws.{NamesJoin, Taken, BlanksVanish, StandsAlone, DecimalsReturn};
 ghost use Rattle.scanner.specs.Reads.{scanned};
 ghost use Rattle.scanner.specs.Sound.{Sound};
 ghost use Rattle.scanner.specs.Sources.{to_come, whole};
@@ -37,13 +37,13 @@ impl Scratch {
     ) -> Result<Option<Token>, Fault>
         ensures reading { scanned self.new.buffers result (model names.new) (to_come source.new) ≡ token (model names.old) (to_come source.old) }
         ensures counters { self.new.counts ≡ self.old.counts }
-        ensures joined { Names-join (to_come source.old) (model names.old) (model names.new) }
+        ensures joined { NamesJoin (to_come source.old) (model names.old) (model names.new) }
         ensures taken { Taken (to_come source.old) (to_come source.new) }
         ensures whole { whole source.new ≡ whole source.old }
         ensures sound { Sound (scanned self.new.buffers result (model names.new) (to_come source.new)) }
-        ensures blanks { Blanks-vanish }
-        ensures alone { Stands-alone }
-        ensures decimals { Decimals-return }
+        ensures blanks { BlanksVanish }
+        ensures alone { StandsAlone }
+        ensures decimals { DecimalsReturn }
     {
         let before = self.counts;
         let guard = Guard {

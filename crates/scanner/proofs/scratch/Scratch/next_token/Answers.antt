@@ -1,6 +1,6 @@
 use Rattle.std.proofs.Common.{suc, [], length, sym, ap, ◌∙◌, subst}
 use Rattle.names.specs.Table.{model}
-use Rattle.scanner.specs.Laws.{Names-join, Taken}
+use Rattle.scanner.specs.Laws.{NamesJoin, Taken}
 use Rattle.scanner.specs.Sources.{to_come}
 use Rattle.scanner.specs.Tokens.{Scanned, no_procedures}
 use Rattle.scanner.proofs.Cutting.{stands_alone}
@@ -23,7 +23,7 @@ returns c =
     record {
       reading = told ∙ follows_grammar names bs;
       counters = c.drop-guard.ensures;
-      joined = subst (Names-join bs names) (sym (ap (λ (s : Scanned). s.names) told) ∙ scanned_names c.token.new.self names' bs' c.token.result) (names_join names bs);
+      joined = subst (NamesJoin bs names) (sym (ap (λ (s : Scanned). s.names) told) ∙ scanned_names c.token.new.self names' bs' c.token.result) (names_join names bs);
       taken = subst (Taken bs) (sym (ap (λ (s : Scanned). s.left) told) ∙ scanned_left c.token.new.self names' bs' c.token.result) (from_front (suc (length bs)) names no_procedures [] bs);
       whole = c.token.ensures.whole;
       sound = subst Sound (sym told) (pieces_sound names bs);
