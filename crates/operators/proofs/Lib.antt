@@ -1,4 +1,1 @@
 pub mod Copies
-pub mod Lifted
-pub mod Nths
-pub mod Texts

@@ -1,10 +1,6 @@
-pub mod Arrays
 pub mod Arithmetic
-pub mod Composites
-pub mod Keys
+pub mod Arrays
 pub mod Operands
-pub mod Outcomes
 pub mod Relations
 pub mod Stack
 pub mod States
-pub mod Texts

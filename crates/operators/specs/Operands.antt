@@ -38,14 +38,6 @@ abbrev pub of_type : {A : Type 0} → Option A → Result A Fault
 of_type None = Err TypeCheck
 of_type (Some x) = Ok x
 
-abbrev pub present : Option Object → Result Object Fault
-present None = Err StackUnderflow
-present (Some o) = Ok o
-
--- the n-th operand, of any type
-abbrev pub operand_at : ℕ → Stacked → Result Object Fault
-operand_at n s = present (slice_get s.objects n)
-
 abbrev object_integer : Option Object → Result ℤ Fault
 object_integer None = Err StackUnderflow
 object_integer (Some o) = of_type (int_of o.value)

@@ -39,11 +39,5 @@ with_operands o s = record { memory = s.memory; names = s.names; operands = o; d
 abbrev pub with_frames : List Frame → State → State
 with_frames f s = record { memory = s.memory; names = s.names; operands = s.operands; dictionaries = s.dictionaries; frames = f; output = s.output }
 
-abbrev pub with_names : List (List ℕ) → State → State
-with_names n s = record { memory = s.memory; names = n; operands = s.operands; dictionaries = s.dictionaries; frames = s.frames; output = s.output }
-
-abbrev pub with_dictionaries : List ℕ → State → State
-with_dictionaries d s = record { memory = s.memory; names = s.names; operands = s.operands; dictionaries = d; frames = s.frames; output = s.output }
-
 abbrev pub with_output : List ℕ → State → State
 with_output o s = record { memory = s.memory; names = s.names; operands = s.operands; dictionaries = s.dictionaries; frames = s.frames; output = o }

@@ -2,11 +2,8 @@
 
 pub mod arithmetic;
 pub mod arrays;
-pub mod composites;
 pub mod frame;
-pub mod keys;
 pub mod machine;
 pub mod reading;
 pub mod relations;
 pub mod stack;
-pub mod text;

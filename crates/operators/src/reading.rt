@@ -1,6 +1,6 @@
 // How operators read their operands.
 ghost use Rattle.std.specs.Prelude.{◌≡◌};
-ghost use Rattle.operators.specs.Operands.{at_least, operand_at, integer_at, natural, natural_at, two_integers, boolean_at, two_booleans, integer};
+ghost use Rattle.operators.specs.Operands.{at_least, integer_at, natural, natural_at, two_integers, boolean_at, two_booleans, integer};
 ghost use Rattle.stacks.specs.Stacked.{truth};
 ghost use Rattle.stacks.specs.Views.{stacked};
 
@@ -16,16 +16,6 @@ pub fn at_least(operands: &Operands, n: usize) -> Result<(), Fault>
         return Err(Fault::StackUnderflow);
     }
     Ok(())
-}
-
-// The n-th operand from the top, of any type.
-pub fn operand_at(operands: &Operands, n: usize) -> Result<Object, Fault>
-    ensures { result ≡ operand_at n (stacked operands.now) }
-{
-    match operands.peek(n) {
-        Some(object) => Ok(object),
-        None => Err(Fault::StackUnderflow),
-    }
 }
 
 // The n-th operand from the top, as an integer.

@@ -9,9 +9,10 @@ use Rattle.objects.specs.declared.object.Object.{Object}
 use Rattle.objects.specs.declared.object.Span.{Span}
 use Rattle.stacks.specs.Printed.{appended}
 use Rattle.stacks.specs.Stacked.{discarded}
-use Rattle.operators.specs.Operands.{then, of_type, operand_at}
+use Rattle.array_operators.specs.Indices.{operand_at}
+use Rattle.operators.specs.Operands.{then, of_type}
 use Rattle.operators.specs.States.{State, with_operands, with_output}
-use Rattle.operators.specs.Texts.{text_of}
+use Rattle.array_operators.specs.Texts.{text_of}
 use Rattle.text_operators.specs.ObjectTexts.{object_text}
 use Rattle.text_operators.specs.Writing.{string_of, put_out, string_out, line_out, Grown}
 

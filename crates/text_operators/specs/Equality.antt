@@ -7,9 +7,10 @@ use Rattle.objects.specs.declared.object.Value.{Value}
 use Rattle.objects.specs.declared.object.Value.TheVariants.{Null, Integer, Boolean, Mark, Name, Operator, Array, String, Dictionary, Save, Header}
 use Rattle.memory.specs.Memories.{InUse}
 use Rattle.stacks.specs.Stacked.{truth, replaced}
-use Rattle.operators.specs.Operands.{then, at_least, operand_at}
+use Rattle.array_operators.specs.Indices.{operand_at}
+use Rattle.operators.specs.Operands.{then, at_least}
 use Rattle.operators.specs.States.{State, with_operands}
-use Rattle.operators.specs.Texts.{text_of}
+use Rattle.array_operators.specs.Texts.{text_of}
 use Rattle.text_operators.specs.ObjectTexts.{name_text}
 
 -- names and strings have letters, by which they are compared

@@ -6,7 +6,7 @@ use Rattle.objects.specs.declared.object.Value.{Value}
 use Rattle.objects.specs.declared.object.Value.TheVariants.{Null, Integer, Boolean, Mark, Name, Operator, Array, String, Dictionary, Save, Header}
 use Rattle.memory.specs.Memories.{InUse}
 use Rattle.operators.specs.States.{State}
-use Rattle.operators.specs.Texts.{text_of}
+use Rattle.array_operators.specs.Texts.{text_of}
 
 abbrev pub or_empty : Option (List ℕ) → List ℕ
 or_empty None = []

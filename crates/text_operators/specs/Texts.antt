@@ -2,7 +2,7 @@
 use Rattle.std.specs.Prelude.{ℕ, List, Some, None, Option}
 use Rattle.objects.specs.Decimals.{integer_text}
 use Rattle.memory.specs.Memories.{InUse}
-use Rattle.operators.specs.Texts.{text_of}
+use Rattle.array_operators.specs.Texts.{text_of}
 use Rattle.text_operators.specs.declared.text.Text.{Text}
 use Rattle.text_operators.specs.declared.text.Text.TheVariants as text
 

@@ -6,9 +6,10 @@ use Rattle.objects.specs.declared.object.Value.{Value}
 use Rattle.objects.specs.declared.object.Value.TheVariants.{Null, Integer, Boolean, Mark, Name, Operator, Array, String, Dictionary, Save, Header}
 use Rattle.stacks.specs.Printed.{appended}
 use Rattle.stacks.specs.Stacked.{discarded}
-use Rattle.operators.specs.Operands.{then, of_type, operand_at}
+use Rattle.array_operators.specs.Indices.{operand_at}
+use Rattle.operators.specs.Operands.{then, of_type}
 use Rattle.operators.specs.States.{State, with_operands, with_output}
-use Rattle.operators.specs.Texts.{text_of}
+use Rattle.array_operators.specs.Texts.{text_of}
 use Rattle.text_operators.specs.ObjectTexts.{object_text}
 
 abbrev pub string_of : Value → Option Span

@@ -11,13 +11,14 @@ ghost use Rattle.text_operators.specs.Texts.{bytes_of_any};
 use crate::object_text::object_text;
 use crate::same_text::same_text;
 use crate::text::Text;
+use array_operators::indices::operand_at;
 use keepers::keeper::Keeper;
 use memory::memory::Memory;
 use names::table::NameTable;
 use objects::fault::Fault;
 use objects::object::Value;
 use operators::machine::Machine;
-use operators::reading::{at_least, operand_at, truth};
+use operators::reading::{at_least, truth};
 
 // The letters of a name, the bytes of a string: by these they are compared.
 fn letters<'a>(names: &'a NameTable, value: Value) -> Option<Text<'a>>

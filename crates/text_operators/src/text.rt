@@ -2,7 +2,7 @@
 ghost use Rattle.std.specs.Prelude.{◌≡◌, length, slice_index};
 ghost use Rattle.memory.specs.Memories.{InUse};
 ghost use Rattle.memory.specs.Views.{memory_of};
-ghost use Rattle.operators.specs.Texts.{text_of};
+ghost use Rattle.array_operators.specs.Texts.{text_of};
 ghost use Rattle.text_operators.specs.Texts.{bytes_of};
 
 use keepers::keeper::Keeper;

@@ -8,11 +8,11 @@ ghost use Rattle.text_operators.specs.Writing.{string_of, string_out, line_out, 
 use crate::object_text::object_text;
 use crate::text::Text;
 use crate::text_output::{write_line, write_text};
+use array_operators::indices::operand_at;
 use keepers::keeper::Keeper;
 use objects::fault::Fault;
 use objects::object::{Span, Value};
 use operators::machine::Machine;
-use operators::reading::operand_at;
 
 fn string_span(value: Value) -> Result<Span, Fault>
     ensures { result ≡ of_type (string_of value) }

@@ -1,7 +1,7 @@
 use Rattle.std.proofs.Common.{◌≡◌, ◌+◌, sym, arith}
 use Rattle.std.proofs.lemmas.List.{get_or_past}
 use Rattle.memory.specs.Views.{memory_of}
-use Rattle.operators.specs.Texts.{byte_in, text_of}
+use Rattle.array_operators.specs.Texts.{byte_in, text_of}
 use Rattle.text_operators.proofs.Bytes.{bytes_length, byte_of}
 use Rattle.text_operators.proofs.text.string_byte.Goals as goal
 
