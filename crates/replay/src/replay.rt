@@ -1,5 +1,5 @@
 // Plays the story on any keeper and prints it.
-ghost use Rattle.std.specs.Prelude.{◌≡◌};
+ghost use Rattle.std.specs.Prelude.{◌≡◌, ◌≢◌, codes};
 ghost use Rattle.replay.specs.Turns.{noted, remembered};
 
 use crate::moves::{BACK_BY_BOTH, BACK_STRAIGHT, Move, STORY, Save};
@@ -64,7 +64,10 @@ fn print_scene(rt: &HostRuntime, scene: Scene) -> io::Result<()> {
     }
 }
 
-fn verdict(found: Scene, saved: Scene) -> &'static str {
+fn verdict(found: Scene, saved: Scene) -> &'static str
+    ensures same { found ≡ saved → result.now ≡ codes "as saved" }
+    ensures different { found ≢ saved → result.now ≡ codes "DIFFERENT" }
+{
     if found.same_as(saved) {
         "as saved"
     } else {
