@@ -13,26 +13,7 @@ numbered n = get_or by_number n StackUnderflow
 
 numbered_number : (f : Fault) → numbered (fault_number f) ≡ f
 numbered_number StackUnderflow = refl
-numbered_number TypeCheck = refl
-numbered_number RangeCheck = refl
-numbered_number LimitCheck = refl
-numbered_number Undefined = refl
-numbered_number UndefinedResult = refl
-numbered_number UnmatchedMark = refl
-numbered_number InvalidExit = refl
-numbered_number InvalidRestore = refl
-numbered_number DictFull = refl
-numbered_number DictStackUnderflow = refl
-numbered_number DictStackOverflow = refl
-numbered_number ExecStackOverflow = refl
-numbered_number VmError = refl
-numbered_number IoError = refl
-numbered_number StackOverflow = refl
-numbered_number SyntaxError = refl
-numbered_number UncaughtStop = refl
-numbered_number NotSetUp = refl
-numbered_number SecondSetUp = refl
-numbered_number NoOperand = refl
+numbered_number f = refl
 
 pub same_from_number : (a b : Fault) → fault_number a ≡ fault_number b → a ≡ b
 same_from_number a b e = sym (numbered_number a) ∙ ap numbered e ∙ numbered_number b

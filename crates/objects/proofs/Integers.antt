@@ -1,16 +1,14 @@
 -- Reading digits from the left, with a number that stops at the largest of 32 bits.
-use Rattle.std.proofs.Common.{◌≡◌, ℕ, zero, suc, ◌+◌, ◌-◌, ◌*◌, ◌^◌, ◌<◌, ◌≤◌, min, true, false, cond, ◌&&◌, ◌⊎◌, List, [], ◌∷◌, length, get_or, take, drop, ℤ, pos, negsuc, Some, None, decimal, Option, sym, refl, ap, ◌∙◌, inl, inr, arith, w32, SFits, rules}
+use Rattle.std.proofs.Common.{◌≡◌, ℕ, suc, ◌+◌, ◌-◌, ◌*◌, ◌^◌, ◌<◌, ◌≤◌, min, Bool, true, false, cond, ◌&&◌, List, [], ◌∷◌, length, get_or, drop, ℤ, pos, negsuc, Some, None, Ok, decimal, Option, refl, ap, ◌∙◌, inl, inr, arith, w32, SFits, rules}
 use Rattle.std.specs.Char.{is_ascii_digit}
-use Rattle.std.specs.Int.{IsInRange}
 use Rattle.std.specs.Str.{all_ascii_digits}
-use Rattle.std.proofs.lemmas.List.{at_drop_more, at_drop_all, take_rest}
-use Rattle.std.proofs.lemmas.Fmt.{decimal_nonempty, length-decimal-le, digits_decimal, digits_value-decimal}
-use Rattle.std.proofs.lemmas.Str.Parse.{IsNumeralModel, numerals_by_fold, numerals_by_value, tells_all_ascii_digits, tells_by_index, not_in_digits}
+use Rattle.std.proofs.lemmas.List.{at_drop_more, at_drop_all}
+use Rattle.std.proofs.lemmas.Fmt.{decimal_nonempty, digits_decimal, digits_value-decimal}
+use Rattle.std.proofs.lemmas.Str.Parse.{IsNumeralModel, numerals_by_fold, tells_all_ascii_digits, not_in_digits}
 use Rattle.std.proofs.lemmas.Bool.{cases_lt, cond-true, cond-false, eq-eqb, ne_eqb, lt-ltb}
 use Rattle.std.proofs.lemmas.Bool.Decides.{nat_tests}
-use Rattle.objects.specs.declared.integer.IntegerReading.TheVariants.{NotInteger, Integer}
 use Rattle.objects.specs.Caps.{capped}
-use Rattle.objects.specs.Decimals.{number_after, number_read, from_zero, to_zero, integer_read, integer_text}
+use Rattle.objects.specs.Decimals.{number_after, number_read, with_sign, integer_read, integer_text}
 
 pub number_after_ge : (n : ℕ) (cs : List ℕ) → n ≤ number_after n cs
 unfolding number_after
@@ -48,74 +46,38 @@ module _ (n i : ℕ) (cs : List ℕ) (inside : i < length cs) where
   unfolding counted
   at_digit = at_drop_more (counted n) cs i 0 inside
 
-  pub digit_more : 48 ≤ get_or cs i 0 → get_or cs i 0 ≤ 57 → counted n (drop i cs) ≡ counted (min (n * 10 + (get_or cs i 0 - 48)) (2 ^ 32 - 1)) (drop (i + 1) cs)
-  digit_more low high =
-      let e : is_ascii_digit (get_or cs i 0) ≡ true = grind (arith, nat_tests) in
-      at_digit ∙ cond-true _ _ _ e
+  pub digit_more : is_ascii_digit (get_or cs i 0) ≡ true → counted n (drop i cs) ≡ counted (min (n * 10 + (get_or cs i 0 - 48)) (2 ^ 32 - 1)) (drop (i + 1) cs)
+  digit_more e = at_digit ∙ cond-true _ _ _ e
 
-  pub below_digits : get_or cs i 0 < 48 → counted n (drop i cs) ≡ None
-  below_digits h =
-      let e : is_ascii_digit (get_or cs i 0) ≡ false = grind (arith, nat_tests) in
-      at_digit ∙ cond-false _ _ _ e
-
-  pub above_digits : 57 < get_or cs i 0 → counted n (drop i cs) ≡ None
-  above_digits h =
-      let e : is_ascii_digit (get_or cs i 0) ≡ false = grind (arith, nat_tests) in
-      at_digit ∙ cond-false _ _ _ e
+  pub no_digit : is_ascii_digit (get_or cs i 0) ≡ false → counted n (drop i cs) ≡ None
+  no_digit e = at_digit ∙ cond-false _ _ _ e
 
 pub digits_done : (n i : ℕ) (cs : List ℕ) → length cs ≤ i → counted n (drop i cs) ≡ Some n
 unfolding counted
 digits_done n i cs h = at_drop_all (counted n) cs i h
 
-from_zero_capped : (o : Option ℕ) → from_zero (capped o) ≡ from_zero o
-from_zero_capped None = refl
-from_zero_capped (Some n) = elim (cases_lt n (2 ^ 32)) [
-  | inl low ↦ let e : min n (2 ^ 32 - 1) ≡ n = omega arith in ap (λ m. from_zero (Some m)) e
-  | inr high ↦ grind (arith, nat_tests)
+-- where the number stops, no 32 bits with a sign hold it
+pub capped_held : (negative : Bool) (o : Option ℕ) → with_sign negative (capped o) ≡ with_sign negative o
+capped_held negative None = refl
+capped_held negative (Some n) = elim (cases_lt n (2 ^ 32)) [
+  | inl low ↦ let e : min n (2 ^ 32 - 1) ≡ n = omega arith in ap (λ m. with_sign negative (Some m)) e
+  | inr high ↦ elim negative as (λ b. with_sign b (capped (Some n)) ≡ with_sign b (Some n)) [ true ↦ grind (arith, nat_tests) | false ↦ grind (arith, nat_tests) ]
 ]
 
-to_zero_capped : (o : Option ℕ) → to_zero (capped o) ≡ to_zero o
-to_zero_capped None = refl
-to_zero_capped (Some n) = elim (cases_lt n (2 ^ 32)) [
-  | inl low ↦ let e : min n (2 ^ 32 - 1) ≡ n = omega arith in ap (λ m. to_zero (Some m)) e
-  | inr high ↦ grind (arith, nat_tests)
-]
-
-read_minus : (text : List ℕ) → 0 < length text → get_or text 0 0 ≡ 45 → integer_read text ≡ to_zero (number_read (drop 1 text))
+pub read_minus : (text : List ℕ) → 0 < length text → get_or text 0 0 ≡ 45 → integer_read text ≡ with_sign true (number_read (drop 1 text))
 unfolding integer_read
 read_minus [] h e = absurd (omega arith)
 read_minus (c ∷ cs) h e = cond-true _ _ _ (eq-eqb c 45 e)
 
-read_plus : (text : List ℕ) → 0 < length text → get_or text 0 0 ≡ 43 → integer_read text ≡ from_zero (number_read (drop 1 text))
+pub read_plus : (text : List ℕ) → 0 < length text → get_or text 0 0 ≡ 43 → integer_read text ≡ with_sign false (number_read (drop 1 text))
 unfolding integer_read
 read_plus [] h e = absurd (omega arith)
 read_plus (c ∷ cs) h e = cond-false _ _ _ (ne_eqb c 45 (λ m. omega arith)) ∙ cond-true _ _ _ (eq-eqb c 43 e)
 
-read_plain : (text : List ℕ) → 0 < length text → (get_or text 0 0 ≡ 45 → ⊥) → (get_or text 0 0 ≡ 43 → ⊥) → integer_read text ≡ from_zero (number_read text)
+pub read_plain : (text : List ℕ) → (get_or text 0 0 ≡ 45 → ⊥) → (get_or text 0 0 ≡ 43 → ⊥) → integer_read text ≡ with_sign false (number_read text)
 unfolding integer_read
-read_plain [] h m p = absurd (omega arith)
-read_plain (c ∷ cs) h m p = cond-false _ _ _ (ne_eqb c 45 m) ∙ cond-false _ _ _ (ne_eqb c 43 p)
-
--- what the reader answers after each first byte
-pub minus_answer : (text : List ℕ) → 0 < length text → get_or text 0 0 ≡ 45 → to_zero (capped (number_read (take (length text - 1) (drop 1 text)))) ≡ integer_read text
-minus_answer text some sign =
-    to_zero_capped (number_read (take (length text - 1) (drop 1 text)))
-    ∙ ap (λ ds. to_zero (number_read ds)) (take_rest text 1)
-    ∙ sym (read_minus text some sign)
-
-pub plus_answer : (text : List ℕ) → 0 < length text → get_or text 0 0 ≡ 43 → from_zero (capped (number_read (take (length text - 1) (drop 1 text)))) ≡ integer_read text
-plus_answer text some sign =
-    from_zero_capped (number_read (take (length text - 1) (drop 1 text)))
-    ∙ ap (λ ds. from_zero (number_read ds)) (take_rest text 1)
-    ∙ sym (read_plus text some sign)
-
-pub plain_answer : (text : List ℕ) → 0 < length text → (get_or text 0 0 ≡ 45 → ⊥) → (get_or text 0 0 ≡ 43 → ⊥) → from_zero (capped (number_read text)) ≡ integer_read text
-plain_answer text some m p = from_zero_capped (number_read text) ∙ sym (read_plain text some m p)
-
-pub read_empty : (text : List ℕ) → length text ≡ 0 → integer_read text ≡ NotInteger
-unfolding integer_read
-read_empty [] h = refl
-read_empty (c ∷ cs) h = absurd (omega arith)
+read_plain [] m p = refl
+read_plain (c ∷ cs) m p = cond-false _ _ _ (ne_eqb c 45 m) ∙ cond-false _ _ _ (ne_eqb c 43 p)
 
 -- digits are read as the number that they write
 own : IsNumeralModel (λ ds. all_ascii_digits ds ≡ true) (number_after 0)
@@ -130,30 +92,15 @@ number_decimal : (n : ℕ) → n < 2 ^ 64 → number_read (decimal n) ≡ Some n
 number_decimal n h = number_digits (decimal n) (decimal_nonempty n h) (digits_decimal own n h) ∙ ap Some (digits_value-decimal own n h)
 
 -- the text of an integer is read as that integer
-pub text_read : (z : ℤ) → SFits w32 z → integer_read (integer_text z) ≡ Integer z
+pub text_read : (z : ℤ) → SFits w32 z → integer_read (integer_text z) ≡ Ok z
 text_read (pos n) h =
     let some = decimal_nonempty n (omega (arith, h.sfits)) in
     let first = not_in_digits own (decimal n) in
     let all = digits_decimal own n (omega (arith, h.sfits)) in
-    read_plain (decimal n) some (λ e. first 45 all (λ r. omega (arith, r)) 0 some e) (λ e. first 43 all (λ r. omega (arith, r)) 0 some e)
-    ∙ ap from_zero (number_decimal n (omega (arith, h.sfits)))
+    read_plain (decimal n) (λ e. first 45 all (λ r. omega (arith, r)) 0 some e) (λ e. first 43 all (λ r. omega (arith, r)) 0 some e)
+    ∙ ap (with_sign false) (number_decimal n (omega (arith, h.sfits)))
     ∙ cond-true _ _ _ (lt-ltb n (2 ^ 31) h.sfits)
 text_read (negsuc n) h =
     read_minus (45 ∷ decimal (suc n)) (omega arith) refl
-    ∙ ap to_zero (number_decimal (suc n) (omega (arith, h.sfits)))
+    ∙ ap (with_sign true) (number_decimal (suc n) (omega (arith, h.sfits)))
     ∙ cond-true _ _ _ (lt-ltb n (2 ^ 31) h.sfits)
-
--- the text of an integer has one to eleven bytes, digits and at most a minus sign
-pub text_length : (z : ℤ) → SFits w32 z → (0 < length (integer_text z)) × (length (integer_text z) ≤ 11)
-text_length (pos n) h =
-    (decimal_nonempty n (omega (arith, h.sfits)), omega (arith, length-decimal-le 10 n (omega arith) (omega (arith, h.sfits)) (omega (arith, h.sfits))))
-text_length (negsuc n) h =
-    (omega arith, omega (arith, length-decimal-le 10 (suc n) (omega arith) (omega (arith, h.sfits)) (omega (arith, h.sfits))))
-
-decimal_bytes : (n : ℕ) → n < 2 ^ 64 → (i : ℕ) → i < length (decimal n) → IsInRange 48 57 (get_or (decimal n) i 0)
-decimal_bytes n h = digits_decimal (numerals_by_value (λ ds. (i : ℕ) → i < length ds → IsInRange 48 57 (get_or ds i 0)) tells_by_index) n h
-
-pub text_bytes : (z : ℤ) → SFits w32 z → (i : ℕ) → i < length (integer_text z) → (get_or (integer_text z) i 0 ≡ 45) ⊎ IsInRange 48 57 (get_or (integer_text z) i 0)
-text_bytes (pos n) h i low = inr (decimal_bytes n (omega (arith, h.sfits)) i low)
-text_bytes (negsuc n) h zero low = inl refl
-text_bytes (negsuc n) h (suc i) low = inr (decimal_bytes (suc n) (omega (arith, h.sfits)) i (omega arith))

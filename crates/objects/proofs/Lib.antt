@@ -1,4 +1,3 @@
-pub mod Decimals
 pub mod Faults
 pub mod Integers
 pub mod Operators

@@ -1,5 +1,6 @@
 -- The operators, their numbers and their names.
-use Rattle.std.specs.Prelude.{ℕ, cond, List, [], ◌∷◌, Some, None, codes, Option}
+use Rattle.std.specs.Prelude.{ℕ, List, [], ◌∷◌, codes, Option}
+use Rattle.std.specs.List.{find}
 use Rattle.std.specs.Str.{bytes_eq}
 use Rattle.objects.specs.declared.operator.Operator.{Operator}
 use Rattle.objects.specs.declared.operator.Operator.TheVariants.{Pop, Exch, Dup, Copy, Index, Roll, Clear, Count, Mark, ClearToMark, CountToMark, Add, Sub, Mul, Idiv, Mod, Neg, Abs, Eq, Ne, Gt, Ge, Lt, Le, And, Or, Xor, Not, True, False, Null, Array, OpenBracket, CloseBracket, Length, Get, Put, Aload, Astore, Forall, String, Dict, MaxLength, Begin, End, Def, Load, Store, Known, Where, CurrentDict, CountDictStack, UserDict, Exec, If, IfElse, For, Repeat, Loop, Exit, Stop, Stopped, Cvx, Cvlit, Cvn, Xcheck, Save, Restore, Print, Equals}
@@ -153,9 +154,5 @@ abbrev pub operators : List Operator
 operators = Pop ∷ Exch ∷ Dup ∷ Copy ∷ Index ∷ Roll ∷ Clear ∷ Count ∷ Mark ∷ ClearToMark ∷ CountToMark ∷ Add ∷ Sub ∷ Mul ∷ Idiv ∷ Mod ∷ Neg ∷ Abs ∷ Eq ∷ Ne ∷ Gt ∷ Ge ∷ Lt ∷ Le ∷ And ∷ Or ∷ Xor ∷ Not ∷ True ∷ False ∷ Null ∷ Array ∷ OpenBracket ∷ CloseBracket ∷ Length ∷ Get ∷ Put ∷ Aload ∷ Astore ∷ Forall ∷ String ∷ Dict ∷ MaxLength ∷ Begin ∷ End ∷ Def ∷ Load ∷ Store ∷ Known ∷ Where ∷ CurrentDict ∷ CountDictStack ∷ UserDict ∷ Exec ∷ If ∷ IfElse ∷ For ∷ Repeat ∷ Loop ∷ Exit ∷ Stop ∷ Stopped ∷ Cvx ∷ Cvlit ∷ Cvn ∷ Xcheck ∷ Save ∷ Restore ∷ Print ∷ Equals ∷ []
 
 -- the first of the operators that has the name
-unfoldable pub first_named : List ℕ → List Operator → Option Operator
-first_named text [] = None
-first_named text (o ∷ os) = cond (bytes_eq (name o) text) (Some o) (first_named text os)
-
 abbrev pub operator_named : List ℕ → Option Operator
-operator_named text = first_named text operators
+operator_named text = find (λ o. bytes_eq (name o) text) operators

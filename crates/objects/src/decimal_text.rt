@@ -1,9 +1,29 @@
-// The decimal text of an integer: at most a sign and ten digits, filled in from the back of its places.
-ghost use Rattle.std.specs.Prelude.{◌≤◌};
+// The decimal text of an integer: at most a sign and ten digits, without a leading zero.
+ghost use Rattle.std.specs.Prelude.{◌≡◌, Ok};
+ghost use Rattle.objects.specs.Decimals.{written, integer_text, integer_read};
+
+use arrayvec::ArrayString;
+use itoa::Buffer;
 
 #[derive(Clone, Copy)]
 pub struct DecimalText {
-    pub(crate) places: [u8; 11],
-    pub(crate) start: usize,
-    ghost within: { start ≤ 11 },
+    text: ArrayString<11>,
+}
+
+impl DecimalText {
+    // Read as an integer, the text gives the integer back.
+    pub fn of(value: i32) -> DecimalText
+        ensures text { written result ≡ integer_text value }
+        ensures back { integer_read (written result) ≡ Ok value }
+    {
+        let mut text = ArrayString::new();
+        text.push_str(Buffer::new().format(value));
+        DecimalText { text }
+    }
+
+    pub fn bytes(&self) -> &[u8]
+        ensures { result.now ≡ written self.now }
+    {
+        self.text.as_bytes()
+    }
 }

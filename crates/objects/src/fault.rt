@@ -1,12 +1,10 @@
 // The refusals: each has a number, which reports and answers carry, and a name.
-ghost use Rattle.std.specs.Prelude.{◌≡◌, ◌==◌, Decides, nat_eq};
+ghost use Rattle.std.specs.Prelude.{◌≡◌, Some};
 ghost use Rattle.objects.specs.Faults.{fault_number, fault_name};
-ghost use Rattle.std.specs.Cmp.Rules.{comparing};
-ghost use Rattle.std.proofs.Common.{rules};
-ghost use Rattle.std.specs.Cmp as Keys;
-ghost use Rattle.std.specs.Ordering.{on};
 
-#[derive(Clone, Copy, Debug)]
+use std::fmt;
+
+#[derive(Clone, Copy, PartialEq, Eq, Debug)]
 pub enum Fault {
     StackUnderflow = 1,
     TypeCheck = 2,
@@ -32,6 +30,7 @@ pub enum Fault {
 }
 
 impl Fault {
+    // Kept: `fault.number()` says which number is meant, where `u8::from(fault)` would not.
     pub fn number(self) -> u8
         ensures { result ≡ fault_number self }
     {
@@ -67,20 +66,10 @@ impl Fault {
     }
 }
 
-// Two refusals are the same exactly when their numbers are.
-impl PartialEq for Fault {
-    ghost eq = { on fault_number nat_eq };
+impl fmt::Display for Fault {
+    ghost output = { λ fault. Some (fault_name fault) };
 
-    ghost laws = { Keys.partial_equiv_from_equiv (Prim.search (comparing, rules)) };
-
-    fn eq(&self, other: &Fault) -> bool
-        ensures answer { result ≡ (fault_number self.now == fault_number other.now) }
-        ensures same { Decides result (self.now ≡ other.now) }
-    {
-        self.number() == other.number()
+    fn fmt<W: fmt::Write>(&self, f: &mut fmt::Formatter<W>) -> fmt::Result {
+        f.write_str(self.name())
     }
-}
-
-impl Eq for Fault {
-    ghost laws = { Prim.search (comparing, rules) };
 }

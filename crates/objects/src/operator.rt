@@ -1,12 +1,8 @@
 // The operators of a rule file: each has a number, 1 to 70 in this order, and a name.
-ghost use Rattle.std.specs.Prelude.{◌≡◌, ◌==◌, Some, Decides, nat_eq};
+ghost use Rattle.std.specs.Prelude.{◌≡◌, Some};
 ghost use Rattle.objects.specs.Operators.{number, name, operator_named};
-ghost use Rattle.std.specs.Cmp.Rules.{comparing};
-ghost use Rattle.std.proofs.Common.{rules};
-ghost use Rattle.std.specs.Cmp as Keys;
-ghost use Rattle.std.specs.Ordering.{on};
 
-#[derive(Clone, Copy, Debug)]
+#[derive(Clone, Copy, PartialEq, Eq, Debug)]
 pub enum Operator {
     Pop = 1,
     Exch = 2,
@@ -80,6 +76,7 @@ pub enum Operator {
     Equals = 70,
 }
 
+// Kept: no derive lists the variants of an enum, and `named` looks through all of them.
 const ALL: [Operator; 70] = [
     Operator::Pop,
     Operator::Exch,
@@ -154,6 +151,7 @@ const ALL: [Operator; 70] = [
 ];
 
 impl Operator {
+    // Kept: `operator.number()` says which number is meant, where `u8::from(operator)` would not.
     pub fn number(self) -> u8
         ensures { result ≡ number self }
     {
@@ -243,29 +241,6 @@ impl Operator {
         ensures answer { result ≡ operator_named text.now }
         ensures unique { (o : Operator) → operator_named (name o) ≡ Some o }
     {
-        for operator in ALL.iter() {
-            if operator.name() == text {
-                return Some(*operator);
-            }
-        }
-        None
+        ALL.iter().copied().find(|operator| operator.name() == text)
     }
-}
-
-// Two operators are the same exactly when their numbers are.
-impl PartialEq for Operator {
-    ghost eq = { on number nat_eq };
-
-    ghost laws = { Keys.partial_equiv_from_equiv (Prim.search (comparing, rules)) };
-
-    fn eq(&self, other: &Operator) -> bool
-        ensures answer { result ≡ (number self.now == number other.now) }
-        ensures same { Decides result (self.now ≡ other.now) }
-    {
-        self.number() == other.number()
-    }
-}
-
-impl Eq for Operator {
-    ghost laws = { Prim.search (comparing, rules) };
 }

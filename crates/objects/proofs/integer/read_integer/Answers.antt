@@ -1,22 +1,18 @@
-use Rattle.std.proofs.Common.{sym, ap, ◌∙◌, rules}
-use Rattle.objects.specs.Decimals.{from_zero, to_zero}
-use Rattle.objects.proofs.Integers.{minus_answer, plus_answer, plain_answer, read_empty}
+use Rattle.std.proofs.Common.{true, false, sym, ap, ◌∙◌, rules}
+use Rattle.std.proofs.lemmas.List.{take_rest}
+use Rattle.objects.specs.Decimals.{number_read, with_sign}
+use Rattle.objects.proofs.Integers.{read_minus, read_plus, read_plain}
 use Rattle.objects.proofs.integer.read_integer.Goals as goal
 
 pub returns-in-45 : goal.returns-in-45
 returns-in-45 c =
-    c.not_above_zero.ensures ∙ ap to_zero c.number.ensures
-    ∙ minus_answer c.args.text.now (search rules) (search rules)
+    c.signed.ensures ∙ ap (λ ds. with_sign true (number_read ds)) (take_rest c.args.text.now 1)
+    ∙ sym (read_minus c.args.text.now (search rules) (search rules))
 
 pub returns-in-43 : goal.returns-in-43
 returns-in-43 c =
-    c.not_below_zero.ensures ∙ ap from_zero c.number-in-43.ensures
-    ∙ plus_answer c.args.text.now (search rules) (search rules)
+    c.signed-in-43.ensures ∙ ap (λ ds. with_sign false (number_read ds)) (take_rest c.args.text.now 1)
+    ∙ sym (read_plus c.args.text.now (search rules) (search rules))
 
-pub returns-in-len1-up : goal.returns-in-len1-up
-returns-in-len1-up c =
-    c.not_below_zero-in-len1-up.ensures ∙ ap from_zero c.number-in-len1-up.ensures
-    ∙ plain_answer c.args.text.now (search rules) (search rules) (search rules)
-
-pub returns-in-empty : goal.returns-in-empty
-returns-in-empty c = sym (read_empty c.args.text.now (search rules))
+pub returns-in_default : goal.returns-in_default
+returns-in_default c = c.signed-in_default.ensures ∙ sym (read_plain c.args.text.now (search rules) (search rules))
