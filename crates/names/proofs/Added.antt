@@ -1,10 +1,10 @@
 -- A new name behind the others: the list of names, and the index over it.
-use Rattle.std.proofs.Common.{◌≡◌, ℕ, ◌+◌, ◌<◌, ◌≤◌, List, [], ◌∷◌, ◌++◌, map, length, take, drop, set, sym, refl, ap, ◌∙◌, subst, arith}
+use Rattle.std.proofs.Common.{◌≡◌, ℕ, ◌+◌, ◌<◌, ◌≤◌, List, [], ◌∷◌, ◌++◌, map, length, take, drop, sym, refl, ap, ◌∙◌, arith}
 use lib.Seq.{paste}
 use Rattle.std.specs.List.{AllByRecursion}
 use Rattle.std.proofs.lemmas.List.Edits.{paste_all}
 use Rattle.std.proofs.ByRecursion.{All-from_get_or}
-use Rattle.std.proofs.lemmas.List.{length-take-le, take_more_set, take-append-le, take-take, take_at, drop_at, drop-take, map_push, get_or-take}
+use Rattle.std.proofs.lemmas.List.{length-take-le, take-append-le, take-take, take_at, drop_at, drop-take, map_push}
 use Rattle.names.specs.declared.entry.Entry.{Entry}
 use Rattle.names.specs.Index.{blank, entry_at, name_in, names_in}
 
@@ -26,26 +26,24 @@ map_same : {X Y : Type 0} (f g : X → Y) (xs : List X) → AllByRecursion (λ x
 map_same f g [] same = refl
 map_same f g (x ∷ xs) same = ap (λ y. y ∷ map f xs) same.0 ∙ ap (λ ys. g x ∷ ys) (map_same f g xs same.1)
 
-module _ (bytes : List ℕ) (entries : List Entry) (count used : ℕ) (text : List ℕ) (entry : Entry)
-    (few : count < length entries) (room : used ≤ length bytes)
-    (inside : (i : ℕ) → i < count → (entry_at entries i).start + (entry_at entries i).len ≤ used)
-    (start : entry.start ≡ used) (len : entry.len ≡ length text) where
-  pub kept_name : (i : ℕ) → i < count → name_in (paste bytes used text (length text)) (entry_at entries i) ≡ name_in bytes (entry_at entries i)
-  kept_name i h = part_kept bytes used text (entry_at entries i).start (entry_at entries i).len (inside i h) room
+module _ (bytes : List ℕ) (entries : List Entry) (used : ℕ) (text : List ℕ) (entry : Entry)
+    (room : used ≤ length bytes)
+    (inside : (i : ℕ) → i < length entries → (entry_at entries i).place.start + (entry_at entries i).place.len ≤ used)
+    (start : entry.place.start ≡ used) (len : entry.place.len ≡ length text) where
+  pub kept_name : (i : ℕ) → i < length entries → name_in (paste bytes used text (length text)) (entry_at entries i) ≡ name_in bytes (entry_at entries i)
+  kept_name i h = part_kept bytes used text (entry_at entries i).place.start (entry_at entries i).place.len (inside i h) room
 
   pub new_name : name_in (paste bytes used text (length text)) entry ≡ text
   new_name =
-      ap (λ n. take n (drop entry.start (paste bytes used text (length text)))) len
+      ap (λ n. take n (drop entry.place.start (paste bytes used text (length text)))) len
       ∙ ap (λ n. take (length text) (drop n (paste bytes used text (length text)))) start
       ∙ part_new bytes used text room
 
-  pub names_added : names_in (paste bytes used text (length text)) (set entries count entry) (count + 1) ≡ names_in bytes entries count ++ text ∷ []
+  pub names_added : names_in (paste bytes used text (length text)) (entries ++ entry ∷ []) ≡ names_in bytes entries ++ text ∷ []
   unfolding names_in
   names_added =
       let now-bytes = paste bytes used text (length text) in
-      let long = length-take-le count entries (omega arith) in
-      let same : map (name_in now-bytes) (take count entries) ≡ map (name_in bytes) (take count entries) = map_same (name_in now-bytes) (name_in bytes) (take count entries) (All-from_get_or (λ e. name_in now-bytes e ≡ name_in bytes e) (take count entries) blank (λ i h. let low : i < count = omega arith in subst (λ e. name_in now-bytes e ≡ name_in bytes e) (sym (get_or-take count entries i blank low)) (kept_name i low))) in
-      ap (map (name_in now-bytes)) (take_more_set entries count entry few)
-      ∙ map_push (name_in now-bytes) (take count entries) entry
+      let same : map (name_in now-bytes) entries ≡ map (name_in bytes) entries = map_same (name_in now-bytes) (name_in bytes) entries (All-from_get_or (λ e. name_in now-bytes e ≡ name_in bytes e) entries blank kept_name) in
+      map_push (name_in now-bytes) entries entry
       ∙ ap (λ ns. ns ++ name_in now-bytes entry ∷ []) same
-      ∙ ap (λ n. map (name_in bytes) (take count entries) ++ n ∷ []) new_name
+      ∙ ap (λ n. map (name_in bytes) entries ++ n ∷ []) new_name

@@ -1,36 +1,30 @@
 -- A name keeps its number, whatever joins later.
-use Rattle.std.proofs.Common.{◌≡◌, ℕ, suc, Bool, true, false, cond, List, [], ◌∷◌, ◌++◌, length, Some, None, Ok, Err, Option, Result, sym, refl, ap, ◌∙◌, subst, inl, inr, arith}
+use Rattle.std.proofs.Common.{◌≡◌, ℕ, suc, Bool, true, false, cond, List, [], ◌∷◌, ◌++◌, length, Some, None, Ok, Err, Option, Result, sym, refl, ap, ◌∙◌, subst, inl, inr}
 use Rattle.std.specs.List.{slice_get}
-use Rattle.std.proofs.lemmas.Bool.{cases_Bool, cond-true, cond-false}
+use Rattle.std.specs.Option.{option_map}
 use Rattle.objects.specs.declared.fault.Fault.{Fault}
 use Rattle.objects.specs.declared.fault.Fault.TheVariants.{LimitCheck}
-use Rattle.names.specs.Names.{place_of, one_on, has_room, new_answer, new_names, answer_by, names_by, join_answer, names_joined, names_after, Lasts}
-use Rattle.names.proofs.Places.{texts, place_here, place_on, place_kept, place_added}
+use Rattle.names.specs.Names.{place_of, has_room, new_answer, new_names, answer_by, names_by, join_answer, names_joined, names_after, Lasts, Apart}
+use Rattle.names.proofs.Places.{texts, place_here, place_on, place_kept, place_added, own_added}
 
 -- what is found is the text
 pub place_read : (text : List ℕ) (names : List (List ℕ)) (n : ℕ) → place_of text names ≡ Some n → slice_get names n ≡ Some text
 unfolding place_of
-place_read text [] n e = let z : ◌≡◌ {A = ℕ} 0 1 = cc in absurd (omega arith)
+place_read text [] n e = cc
 place_read text (name ∷ names) n e = elim (texts name text) [
   | inl w ↦ let here : n ≡ 0 = cc (place_here text name names w.1) in ap (slice_get (name ∷ names)) here ∙ ap Some w.1
   | inr w ↦ by (λ j at. place_read text names j at) (place_of text names) refl (sym (place_on text name names w.1) ∙ e)
 ]
   where
-    by : ((j : ℕ) → place_of text names ≡ Some j → slice_get names j ≡ Some text) → (o : Option ℕ) → place_of text names ≡ o → one_on o ≡ Some n → slice_get (name ∷ names) n ≡ Some text
-    by rest None at e' = let z : ◌≡◌ {A = ℕ} 0 1 = cc in absurd (omega arith)
+    by : ((j : ℕ) → place_of text names ≡ Some j → slice_get names j ≡ Some text) → (o : Option ℕ) → place_of text names ≡ o → option_map suc o ≡ Some n → slice_get (name ∷ names) n ≡ Some text
+    by rest None at e' = cc
     by rest (Some j) at e' = let there : n ≡ suc j = cc in ap (slice_get (name ∷ names)) there ∙ rest j at
 
 module _ (text : List ℕ) (names : List (List ℕ)) where
   place_new : (n : ℕ) → place_of text names ≡ None → new_answer text names ≡ Ok n → place_of text (new_names text names) ≡ Some n
-  place_new n none answer = elim (cases_Bool (has_room text names)) [
-    | inl room ↦
-        let answered : ◌≡◌ {A = Result ℕ Fault} (Ok (length names)) (Ok n) = sym (cond-true _ _ _ room) ∙ answer in
-        let number : length names ≡ n = cc in
-        ap (place_of text) (cond-true _ _ _ room) ∙ place_added text names [] none ∙ ap Some number
-    | inr full ↦
-        let answered : ◌≡◌ {A = Result ℕ Fault} (Err LimitCheck) (Ok n) = sym (cond-false _ _ _ full) ∙ answer in
-        let z : ◌≡◌ {A = ℕ} 0 1 = cc in absurd (omega arith)
-  ]
+  place_new n none answer =
+      elim (has_room text names) as (λ b. cond b (Ok (length names)) (Err LimitCheck) ≡ Ok n → place_of text (cond b (names ++ text ∷ []) names) ≡ Some n) [ true ↦ λ e. place_added text names [] none ∙ ap Some cc | false ↦ λ e. cc ]
+      answer
 
   place_by : (n : ℕ) (o : Option ℕ) → place_of text names ≡ o → answer_by o text names ≡ Ok n → place_of text (names_by o text names) ≡ Some n
   place_by n (Some k) at answer = let number : k ≡ n = cc in at ∙ ap Some number
@@ -41,12 +35,9 @@ module _ (text : List ℕ) (names : List (List ℕ)) where
   join_place n answer = place_by n (place_of text names) refl answer
 
   new_refused : (f : Fault) → new_answer text names ≡ Err f → new_names text names ≡ names
-  new_refused f answer = elim (cases_Bool (has_room text names)) [
-    | inl room ↦
-        let answered : ◌≡◌ {A = Result ℕ Fault} (Ok (length names)) (Err f) = sym (cond-true _ _ _ room) ∙ answer in
-        let z : ◌≡◌ {A = ℕ} 0 1 = cc in absurd (omega arith)
-    | inr full ↦ cond-false _ _ _ full
-  ]
+  new_refused f answer =
+      elim (has_room text names) as (λ b. cond b (Ok (length names)) (Err LimitCheck) ≡ Err f → cond b (names ++ text ∷ []) names ≡ names) [ true ↦ λ e. cc | false ↦ λ e. refl ]
+      answer
 
   refused_by : (f : Fault) (o : Option ℕ) → answer_by o text names ≡ Err f → names_by o text names ≡ names
   refused_by f (Some k) answer = refl
@@ -73,6 +64,14 @@ lasts text names n e = record {
   read = λ later. place_read text (names_after later names) n (after_kept text later names n e);
 }
 
+new_apart : (text : List ℕ) (names : List (List ℕ)) → place_of text names ≡ None → Apart names → Apart (new_names text names)
+new_apart text names new apart =
+    elim (has_room text names) as (λ b. Apart (cond b (names ++ text ∷ []) names)) [ true ↦ own_added text names new apart | false ↦ apart ]
+
+apart_by : (text : List ℕ) (names : List (List ℕ)) (o : Option ℕ) → place_of text names ≡ o → Apart names → Apart (names_by o text names)
+apart_by text names (Some n) at apart = apart
+apart_by text names None at apart = new_apart text names at apart
+
 -- what joining answers and leaves
 module _ (text : List ℕ) (names left : List (List ℕ)) (answer : Result ℕ Fault) (told : answer ≡ join_answer text names) (after : left ≡ names_joined text names) where
   pub join_lasts : (n : ℕ) → answer ≡ Ok n → Lasts text n left
@@ -80,3 +79,6 @@ module _ (text : List ℕ) (names left : List (List ℕ)) (answer : Result ℕ F
 
   pub join_refused : (f : Fault) → answer ≡ Err f → left ≡ names
   join_refused f e = after ∙ refused_by text names f (place_of text names) (sym told ∙ e)
+
+  pub join_apart : Apart names → Apart left
+  join_apart apart = subst Apart (sym after) (apart_by text names (place_of text names) refl apart)

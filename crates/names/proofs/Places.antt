@@ -1,11 +1,12 @@
 -- Where a text stands among the names.
 use Rattle.std.proofs.Common.{◌≡◌, ℕ, zero, suc, ◌+◌, ◌<◌, true, false, cond, ◌⊎◌, List, [], ◌∷◌, ◌++◌, length, get_or, Some, None, Option, sym, refl, ap, ◌∙◌, inl, inr, arith}
+use Rattle.std.specs.Option.{option_map}
 use Rattle.std.specs.Str.{bytes_eq}
 use Rattle.std.proofs.lemmas.Slice.Eq.{bytes_eq-Decides}
 use Rattle.std.proofs.lemmas.Bool.{cond-true, cond-false, cases_Bool, cases_eq}
 use Rattle.std.proofs.lemmas.Bool.Decides.{not_from_Decides}
-use Rattle.std.proofs.lemmas.List.{get_or_push, get_or_append_left}
-use Rattle.names.specs.Names.{place_of, one_on, bytes_in}
+use Rattle.std.proofs.lemmas.List.{get_or_push, get_or_append_left, length-append}
+use Rattle.names.specs.Names.{place_of, bytes_in}
 
 -- two texts are the same, or not
 pub texts : (xs ys : List ℕ) → ((bytes_eq xs ys ≡ true) × (xs ≡ ys)) ⊎ ((bytes_eq xs ys ≡ false) × (xs ≡ ys → ⊥))
@@ -25,7 +26,7 @@ module _ (text name : List ℕ) (names : List (List ℕ)) where
   unfolding place_of
   place_here e = cond-true _ _ _ (same_yes name text e)
 
-  pub place_on : (name ≡ text → ⊥) → place_of text (name ∷ names) ≡ one_on (place_of text names)
+  pub place_on : (name ≡ text → ⊥) → place_of text (name ∷ names) ≡ option_map suc (place_of text names)
   unfolding place_of
   place_on ne = cond-false _ _ _ (same_no name text ne)
 
@@ -35,7 +36,7 @@ unfolding place_of
 place_none text [] none = refl
 place_none text (name ∷ names) none =
     place_on text name names (none 0 (omega arith))
-    ∙ ap one_on (place_none text names (λ i h e. none (suc i) (omega arith) e))
+    ∙ ap (option_map suc) (place_none text names (λ i h e. none (suc i) (omega arith) e))
 
 -- the last of the first n names that has the bytes
 unfoldable pub last_of : List ℕ → List (List ℕ) → ℕ → Option ℕ
@@ -83,36 +84,36 @@ module _ (text : List ℕ) (names : List (List ℕ)) where
 -- a name that is found stays where it is, whatever comes behind the names
 pub place_kept : (text : List ℕ) (names more : List (List ℕ)) (k : ℕ) → place_of text names ≡ Some k → place_of text (names ++ more) ≡ Some k
 unfolding place_of
-place_kept text [] more k e = let z : ◌≡◌ {A = ℕ} 0 1 = cc in absurd (omega arith)
+place_kept text [] more k e = cc
 place_kept text (name ∷ names) more k e = elim (texts name text) [
   | inl w ↦ place_here text name (names ++ more) w.1 ∙ sym (place_here text name names w.1) ∙ e
   | inr w ↦ place_on text name (names ++ more) w.1 ∙ by (λ j at. place_kept text names more j at) (place_of text names) refl (sym (place_on text name names w.1) ∙ e)
 ]
   where
-    by : ((j : ℕ) → place_of text names ≡ Some j → place_of text (names ++ more) ≡ Some j) → (o : Option ℕ) → place_of text names ≡ o → one_on o ≡ Some k → one_on (place_of text (names ++ more)) ≡ Some k
-    by rest None at e' = let z : ◌≡◌ {A = ℕ} 0 1 = cc in absurd (omega arith)
-    by rest (Some j) at e' = ap one_on (rest j at) ∙ e'
+    by : ((j : ℕ) → place_of text names ≡ Some j → place_of text (names ++ more) ≡ Some j) → (o : Option ℕ) → place_of text names ≡ o → option_map suc o ≡ Some k → option_map suc (place_of text (names ++ more)) ≡ Some k
+    by rest None at e' = cc
+    by rest (Some j) at e' = ap (option_map suc) (rest j at) ∙ e'
 
 -- a name that is not found is found behind the names
 pub place_added : (text : List ℕ) (names more : List (List ℕ)) → place_of text names ≡ None → place_of text (names ++ text ∷ more) ≡ Some (length names)
 place_added text [] more e = place_here text text more refl
 place_added text (name ∷ names) more e = elim (texts name text) [
-  | inl w ↦ let here = place_here text name names w.1 in let z : ◌≡◌ {A = ℕ} 0 1 = cc in absurd (omega arith)
+  | inl w ↦ let here = place_here text name names w.1 in cc
   | inr w ↦ place_on text name (names ++ text ∷ more) w.1 ∙ by (λ at. place_added text names more at) (place_of text names) refl (sym (place_on text name names w.1) ∙ e)
 ]
   where
-    by : (place_of text names ≡ None → place_of text (names ++ text ∷ more) ≡ Some (length names)) → (o : Option ℕ) → place_of text names ≡ o → one_on o ≡ None → one_on (place_of text (names ++ text ∷ more)) ≡ Some (suc (length names))
-    by rest None at e' = ap one_on (rest at)
-    by rest (Some j) at e' = let z : ◌≡◌ {A = ℕ} 0 1 = cc in absurd (omega arith)
+    by : (place_of text names ≡ None → place_of text (names ++ text ∷ more) ≡ Some (length names)) → (o : Option ℕ) → place_of text names ≡ o → option_map suc o ≡ None → option_map suc (place_of text (names ++ text ∷ more)) ≡ Some (suc (length names))
+    by rest None at e' = ap (option_map suc) (rest at)
+    by rest (Some j) at e' = cc
 
 -- each name is found under its own number, and still is when a new one is added
-pub own_added : (text : List ℕ) (names : List (List ℕ)) → place_of text names ≡ None → ((i : ℕ) → i < length names → place_of (get_or names i []) names ≡ Some i) → (i : ℕ) → i < length names + 1 → place_of (get_or (names ++ text ∷ []) i []) (names ++ text ∷ []) ≡ Some i
+pub own_added : (text : List ℕ) (names : List (List ℕ)) → place_of text names ≡ None → ((i : ℕ) → i < length names → place_of (get_or names i []) names ≡ Some i) → (i : ℕ) → i < length (names ++ text ∷ []) → place_of (get_or (names ++ text ∷ []) i []) (names ++ text ∷ []) ≡ Some i
 own_added text names new own i h = elim (cases_eq i (length names)) [
   | inl at ↦
       ap (λ t. place_of t (names ++ text ∷ [])) (ap (λ j. get_or (names ++ text ∷ []) j []) at ∙ get_or_push names text [] (length names) refl)
       ∙ place_added text names [] new ∙ ap Some (sym at)
   | inr other ↦
-      let low : i < length names = omega (arith, other) in
+      let low : i < length names = omega (arith, other, h, length-append names (text ∷ [])) in
       ap (λ t. place_of t (names ++ text ∷ [])) (get_or_append_left names (text ∷ []) [] i low)
       ∙ place_kept (get_or names i []) names (text ∷ []) i (own i low)
 ]

@@ -1,44 +1,68 @@
--- What a table's ghost fields say, as one record.
-use Rattle.std.proofs.Common.{◌≡◌, ℕ, ◌+◌, ◌<◌, ◌≤◌, true, false, List, [], length, get_or, ap, ◌∙◌, arith}
+-- What the fields of a table say of the names that it holds.
+use Rattle.std.proofs.Common.{◌≡◌, ℕ, ◌+◌, ◌<◌, ◌≤◌, List, length, Some, None, Option, sym, ap, ◌∙◌, subst, arith, true, false}
+use lib.Dec.{leb}
 use Rattle.std.proofs.lemmas.Bool.Decides.{nat_tests}
-use Rattle.names.specs.Names.{place_of, has_room, bytes_in, Apart}
-use Rattle.names.specs.Index.{entry_at, name_in}
-use Rattle.names.specs.Table.{model}
-use Rattle.names.specs.declared.table.NameTable.{NameTable}
-use Rattle.names.proofs.Laid.{length_names, name_at}
-use Rattle.names.proofs.Sound.{Sound}
+use Rattle.std.specs.Borrow.{Bor}
+use Rattle.std.specs.List.{slice_get, HoldsAt}
+use Rattle.std.specs.Slice.{IsItemAt}
+use Rattle.std.specs.Option.{option_map, option_and_then, MatchOption}
+use Rattle.std.proofs.lemmas.Option.{slice_get_past, slice_get-get_or, slice_get_within, get_or_from_slice_get}
+use Rattle.objects.specs.Operators.{operator_named}
+use Rattle.names.specs.Names.{has_room, bytes_in, operator_at}
+use Rattle.names.specs.Index.{blank, entry_at, name_in, names_in, Sound}
+use Rattle.names.specs.declared.entry.Entry.{Entry}
+use Rattle.names.proofs.Laid.{length_names, nth_name}
 
-pub sound_of : (table : NameTable) → Sound table.bytes table.entries table.heads table.count table.used
-sound_of table = record {
-  places = table.places;
-  buckets = table.buckets;
-  few = table.few;
-  room = table.room;
-  inside = table.inside;
-  filled = table.filled;
-  told = table.told;
-  own = table.own;
-  newest = table.newest;
-  linked = table.linked;
-}
+-- what `get` finds at a place, as an element of the list
+module _ {X : Type 0} (xs ys : List X) (i j : ℕ) (r : Option (Bor X)) (same : xs ≡ ys) (here : i ≡ j) where
+  pub no_item : IsItemAt xs i r → r ≡ None → slice_get ys j ≡ None
+  no_item h none = ap (slice_get ys) (sym here) ∙ ap (λ zs. slice_get zs i) (sym same) ∙ slice_get_past xs i (grind arith)
 
-pub length_model : (table : NameTable) → length (model table) ≡ table.count
-length_model table = length_names table.bytes table.entries table.count (omega (arith, table.few, table.places))
+  pub item : (x : Bor X) → IsItemAt xs i r → r ≡ Some x → slice_get ys j ≡ Some x.now
+  item x h some =
+      let there = subst (λ o. MatchOption o (length xs ≤ i) (λ x. (i < length xs) × HoldsAt (λ y. x.now ≡ y) xs i)) some h.3 in
+      ap (slice_get ys) (sym here) ∙ ap (λ zs. slice_get zs i) (sym same) ∙ slice_get-get_or xs i x.now there.0 ∙ ap Some (sym (there.1 x.now))
 
--- a new name has no room where there are names enough, and has room where all three limits say so
-pub names_enough : (table : NameTable) (text : List ℕ) → 1024 ≤ table.count → has_room text (model table) ≡ false
-names_enough table text h = let all = length_model table in grind (arith, nat_tests)
+module _ (bytes : List ℕ) (used : ℕ) (entries : List Entry) (heads : List (Option ℕ)) (names : List (List ℕ))
+    (sound : Sound bytes used entries heads) (held : names_in bytes entries ≡ names) where
+  pub names_many : length names ≡ length entries
+  names_many = ap length (sym held) ∙ length_names bytes entries
 
-pub room_enough : (table : NameTable) (text : List ℕ) → table.count < 1024 → length text ≤ 128 → table.used + length text ≤ 8192 → has_room text (model table) ≡ true
-room_enough table text h k fits =
-    let all = length_model table in
-    let filled : bytes_in (model table) ≡ table.used = table.filled in
-    grind (arith, nat_tests)
+  names_full : bytes_in names ≡ used
+  names_full = ap bytes_in (sym held) ∙ sound.filled
 
-pub name_in_model : (table : NameTable) (i : ℕ) → i < table.count → get_or (model table) i [] ≡ name_in table.bytes (entry_at table.entries i)
-name_in_model table i h = name_at table.bytes table.entries table.count (omega (arith, table.few, table.places)) i h
+  pub names_fit : bytes_in names ≤ 8192
+  names_fit = let full = names_full in let room = sound.room in omega arith
 
-pub apart : (table : NameTable) → Apart (model table)
-apart table i h =
-    let low : i < table.count = omega (arith, length_model table) in
-    ap (λ t. place_of t (model table)) (name_in_model table i low) ∙ table.own i low
+  pub room_is : (text : List ℕ) → length entries < 1024 → length text ≤ 128 → leb (used + length text) 8192 ≡ has_room text names
+  room_is text few short = let all = names_many in let full = names_full in grind (arith, nat_tests)
+
+  pub names_enough : (text : List ℕ) → 1024 ≤ length entries → has_room text names ≡ false
+  names_enough text many = let all = names_many in grind (arith, nat_tests)
+
+  pub too_long : (text : List ℕ) → 128 < length text → has_room text names ≡ false
+  too_long text long = grind (arith, nat_tests)
+
+  pub room_says : (text : List ℕ) → has_room text names ≡ true → (length entries < 1024) × (length text ≤ 128) × (used + length text ≤ 8192)
+  room_says text room = let all = names_many in let full = names_full in (grind (arith, nat_tests), grind (arith, nat_tests), grind (arith, nat_tests))
+
+  pub no_name : (i : ℕ) → slice_get entries i ≡ None → slice_get names i ≡ None
+  no_name i none = ap (λ ns. slice_get ns i) (sym held) ∙ nth_name bytes entries i ∙ ap (option_map (name_in bytes)) none
+
+  pub the_name : (i : ℕ) (entry : Entry) → slice_get entries i ≡ Some entry → slice_get names i ≡ Some (name_in bytes entry)
+  the_name i entry some = ap (λ ns. slice_get ns i) (sym held) ∙ nth_name bytes entries i ∙ ap (option_map (name_in bytes)) some
+
+  module _ (i : ℕ) (entry : Entry) (some : slice_get entries i ≡ Some entry) where
+    low : i < length entries
+    low = slice_get_within entries i entry some
+
+    same : entry_at entries i ≡ entry
+    same = get_or_from_slice_get entries i entry blank some
+
+    pub name_within : length bytes ≡ 8192 → entry.place.start + entry.place.len ≤ length bytes
+    name_within size = subst (λ e. e.place.start + e.place.len ≤ length bytes) same (omega (arith, sound.inside i low, sound.room, size))
+
+    pub operator_told : entry.operator ≡ operator_at i names
+    operator_told =
+        subst (λ e. e.operator ≡ operator_named (name_in bytes e)) same (sound.told i low)
+        ∙ sym (ap (option_and_then operator_named) (the_name i entry some))

@@ -1,20 +1,17 @@
 -- The name table as a list: the names in the order in which they joined, each a list of bytes.
 use Rattle.std.specs.Prelude.{◌≡◌, ℕ, suc, ◌+◌, ◌<◌, Bool, cond, ◌&&◌, List, [], ◌∷◌, ◌++◌, length, Some, None, Ok, Err, Option, Result, nat_le, nat_lt, slice_index_or}
 use Rattle.std.specs.List.{slice_get}
+use Rattle.std.specs.Option.{option_map, option_and_then}
 use Rattle.std.specs.Str.{bytes_eq}
 use Rattle.objects.specs.declared.fault.Fault.{Fault}
 use Rattle.objects.specs.declared.fault.Fault.TheVariants.{LimitCheck}
 use Rattle.objects.specs.declared.operator.Operator.{Operator}
 use Rattle.objects.specs.Operators.{operator_named}
 
-abbrev pub one_on : Option ℕ → Option ℕ
-one_on None = None
-one_on (Some n) = Some (suc n)
-
 -- the number of the first name that has these bytes
 unfoldable pub place_of : List ℕ → List (List ℕ) → Option ℕ
 place_of text [] = None
-place_of text (name ∷ names) = cond (bytes_eq name text) (Some 0) (one_on (place_of text names))
+place_of text (name ∷ names) = cond (bytes_eq name text) (Some 0) (option_map suc (place_of text names))
 
 -- how many bytes the names have in all
 unfoldable pub bytes_in : List (List ℕ) → ℕ
@@ -55,12 +52,8 @@ names_after [] names = names
 names_after (text ∷ texts) names = names_after texts (names_joined text names)
 
 -- the operator that a name names, if the number is a name's and there is one
-abbrev pub operator_of : Option (List ℕ) → Option Operator
-operator_of None = None
-operator_of (Some text) = operator_named text
-
 abbrev pub operator_at : ℕ → List (List ℕ) → Option Operator
-operator_at number names = operator_of (slice_get names number)
+operator_at number names = option_and_then operator_named (slice_get names number)
 
 -- a text lasts under its number: whatever joins later, it is found there and read back there, and joins no second time
 pub record Lasts (text : List ℕ) (number : ℕ) (names : List (List ℕ)) : Type 0 where

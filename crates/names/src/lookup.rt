@@ -1,30 +1,31 @@
 // What the name table answers without being changed.
-ghost use Rattle.std.specs.Prelude.{◌≡◌, length};
+ghost use Rattle.std.specs.Prelude.{◌≡◌, ◌≤◌, length};
 ghost use Rattle.std.specs.List.{slice_get};
-ghost use Rattle.names.specs.Names.{place_of, operator_at};
-ghost use Rattle.names.specs.Table.{model, seen};
+ghost use Rattle.std.specs.Option.{option_copied};
+ghost use Rattle.names.specs.Names.{place_of, operator_at, bytes_in, Apart};
 
 use crate::bucket::bucket;
 use crate::table::NameTable;
 use objects::operator::Operator;
 
 impl NameTable {
+    // How many names there are: at most 1,024.
     pub fn len(&self) -> usize
-        ensures { result ≡ length (model self.now) }
+        ensures value { result ≡ length self.now }
+        ensures bound { result ≤ 1024 }
     {
-        self.count
+        self.entries.len()
     }
 
-    // The number of the name that has these bytes. Only the names of its bucket are compared, newest first.
+    // The number of the name that has these bytes: there is at most one. Only the names of its bucket are compared, newest first.
     pub fn find(&self, text: &[u8]) -> Option<u16>
-        ensures { result ≡ place_of text.now (model self.now) }
+        ensures answer { result ≡ place_of text.now self.now }
+        ensures apart { Apart self.now }
     {
         let mut link = self.heads[bucket(text)];
         while let Some(number) = link {
             let entry = self.entries[usize::from(number)];
-            let start = usize::from(entry.start);
-            let name = &self.bytes[start..start + usize::from(entry.len)];
-            if name == text {
+            if entry.name(&self.bytes) == text {
                 return Some(number);
             }
             link = entry.next;
@@ -32,27 +33,19 @@ impl NameTable {
         None
     }
 
-    // The bytes of the name with this number.
+    // The bytes of the name with this number. All names together have at most 8,192.
     pub fn text_of(&self, number: u16) -> Option<&[u8]>
-        ensures { seen result ≡ slice_get (model self.now) number }
+        ensures name { option_copied result ≡ slice_get self.now number }
+        ensures fits { bytes_in self.now ≤ 8192 }
     {
-        let at = usize::from(number);
-        if at >= self.count {
-            return None;
-        }
-        let entry = self.entries[at];
-        let start = usize::from(entry.start);
-        Some(&self.bytes[start..start + usize::from(entry.len)])
+        let entry = self.entries.get(usize::from(number))?;
+        Some(entry.name(&self.bytes))
     }
 
     // The operator that the name with this number names, if there is one.
     pub fn operator_of(&self, number: u16) -> Option<Operator>
-        ensures { result ≡ operator_at number (model self.now) }
+        ensures { result ≡ operator_at number self.now }
     {
-        let at = usize::from(number);
-        if at >= self.count {
-            return None;
-        }
-        self.entries[at].operator
+        self.entries.get(usize::from(number))?.operator
     }
 }

@@ -11,8 +11,5 @@ loop-byte-preserved c = (
   omega arith,
 )
 
-pub returns : goal.returns
-returns c = record {
-  number = sym (bucket_all c.loop-byte.bucket c.loop-byte.byte-index c.args.text.now (omega arith)) ∙ c.loop-byte.invariant.0;
-  within = c.loop-byte.invariant.1;
-}
+pub returns-clause-number : goal.returns-clause-number
+returns-clause-number c = sym (bucket_all c.loop-byte.bucket c.loop-byte.byte-index c.args.text.now (omega arith)) ∙ c.loop-byte.invariant.0

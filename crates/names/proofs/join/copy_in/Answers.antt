@@ -1,9 +1,6 @@
 use Rattle.std.proofs.Common.{◌+◌, get_or, set, ap, ◌∙◌, arith}
-use Rattle.std.proofs.lemmas.List.Edits.{paste_none, paste_more}
+use Rattle.std.proofs.lemmas.List.Edits.{paste_more}
 use Rattle.names.proofs.join.copy_in.Goals as goal
-
-pub loop-i-init : goal.loop-i-init
-loop-i-init c = paste_none c.args.places.now c.args.at c.args.text.now
 
 pub loop-i-preserved : goal.loop-i-preserved
 loop-i-preserved c =

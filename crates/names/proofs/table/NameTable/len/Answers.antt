@@ -1,6 +1,6 @@
-use Rattle.std.proofs.Common.{sym, arith}
-use Rattle.names.proofs.Laid.{length_names}
+use Rattle.std.proofs.Common.{sym, ◌∙◌}
+use Rattle.names.proofs.Tables.{names_many}
 use Rattle.names.proofs.table.NameTable.len.Goals as goal
 
-pub returns : goal.returns
-returns c = sym (length_names c.args.self.now.bytes c.args.self.now.entries c.args.self.now.count (omega arith))
+pub returns-clause-value : goal.returns-clause-value
+returns-clause-value c = c.len.ensures.value ∙ sym (names_many _ _ _ _ _ c.self.invariant c.self.view_is)

@@ -1,14 +1,16 @@
-use Rattle.std.proofs.Common.{sym, ap, ◌∙◌, arith}
-use Rattle.names.specs.Index.{entry_at}
-use Rattle.names.specs.Names.{operator_of}
-use Rattle.names.proofs.Laid.{nth_name, no_name, same_told}
+use Rattle.std.proofs.Common.{◌≡◌, Some, None, sym, ap, ◌∙◌}
+use Rattle.std.specs.List.{slice_get}
+use Rattle.std.specs.Option.{option_and_then}
+use Rattle.objects.specs.Operators.{operator_named}
+use Rattle.names.proofs.Tables.{no_item, item, no_name, operator_told}
 use Rattle.names.proofs.table.NameTable.operator_of.Goals as goal
 
-pub returns-then-at-self : goal.returns-then-at-self
-returns-then-at-self c = sym (ap operator_of (no_name c.args.self.now.bytes c.args.self.now.entries c.args.self.now.count (omega arith) c.args.number (omega arith)))
+pub returns-in_err-get : goal.returns-in_err-get
+returns-in_err-get c =
+    let none : slice_get c.self.inside.entries.items c.args.number ≡ None = no_item _ _ _ _ _ c.deref.ensures.0 c.from.ensures c.get.ensures.lookup c.in_err-get.was in
+    c.from_residual.ensures ∙ ap (option_and_then operator_named) (sym (no_name _ _ _ _ _ c.self.invariant c.self.view_is c.args.number none))
 
 pub returns : goal.returns
 returns c =
-    ap (λ i. (entry_at c.args.self.now.entries i).operator) c.from-at.ensures
-    ∙ same_told _ _ (c.args.self.now.told c.args.number (omega arith))
-    ∙ sym (ap operator_of (nth_name c.args.self.now.bytes c.args.self.now.entries c.args.self.now.count (omega arith) c.args.number (omega arith)))
+    let some : slice_get c.self.inside.entries.items c.args.number ≡ Some c.in_ok-get.field-0.now = item _ _ _ _ _ c.deref.ensures.0 c.from.ensures c.in_ok-get.field-0 c.get.ensures.lookup c.in_ok-get.was in
+    operator_told _ _ _ _ _ c.self.invariant c.self.view_is c.args.number _ some
