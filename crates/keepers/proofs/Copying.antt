@@ -1,9 +1,9 @@
 -- Copies in a second memory, level by level.
 use Rattle.std.proofs.Common.{◌≡◌, ℕ, zero, suc, ◌+◌, ◌-◌, ◌*◌, ◌<◌, ◌≤◌, min, true, ltb, List, [], ◌∷◌, ◌++◌, length, get_or, take, drop, set, sym, refl, ap, ◌∙◌, ⊎_elim, suc-mul, add-one, arith}
 use borrow.Rule.Slice.PartMut.{put_mid}
-use Rattle.std.proofs.lemmas.List.{append-nil, take-append-drop, take_rest, take_all, take-take, take-append-le, take_at, drop_at, drop_all, drop-take, length_push, length-take-le, length-drop, set-append_right, get_or_append_left, get_or_push, get_or-drop, take_more, take_more_set}
+use Rattle.std.proofs.lemmas.List.{append-nil, take-append-drop, take_rest, take_all, take-take, take-append-le, take_at, drop_at, drop_all, drop-take, length_push, length-take-le, length-drop, set-append_right, get_or_append_left, get_or_push}
 use lib.Seq.{paste}
-use Rattle.std.proofs.lemmas.List.Edits.{paste_more, take-paste, length-paste}
+use Rattle.std.proofs.lemmas.List.Edits.{take-paste, length-paste}
 use Rattle.std.proofs.lemmas.Bool.{cases_lt, lt-ltb}
 use Rattle.objects.specs.declared.object.Object.{Object}
 use Rattle.objects.specs.Outcomes.{after}
@@ -66,26 +66,6 @@ getD_copy_levels j (suc k) n xs h =
     (λ more. let last : j ≡ k = omega arith in
     get_or_push (copy_levels k n xs) _ [] j (omega arith) ∙ sym (ap (λ m. take n (drop (m * n) xs)) last))
     (cases_lt j k)
-
--- one more slot copied
-pub copied_more : (new old was : List Object) (present slots : List Object) (from i : ℕ) (d : Object) → new ≡ set old (from + i) (get_or present i d) → present ≡ slots → old ≡ paste was from slots i → from + i < length was → i < length slots → new ≡ paste was from slots (i + 1)
-copied_more new old was present slots from i d stored same e h k =
-    let more = paste_more was from slots i d h k in
-    cc
-
--- one more slot written from a copy
-pub written_more : (ys xs zs : List Object) (from i : ℕ) (d : Object) → xs ≡ zs → i < length ys → from + i < length zs → take i ys ≡ take i (drop from zs) → take (i + 1) (set ys i (get_or xs (from + i) d)) ≡ take (i + 1) (drop from zs)
-written_more ys xs zs from i d same h k e =
-    let inside : i < length (drop from zs) = simp length-drop (omega arith) in
-    let left = take_more_set ys i (get_or xs (from + i) d) h in
-    let right = take_more (drop from zs) i d inside in
-    let read = get_or-drop from zs i d in
-    cc
-
-pub written_all : (ys zs : List Object) (from n i : ℕ) → length ys ≡ n → n ≡ i → take i ys ≡ take i (drop from zs) → ys ≡ take n (drop from zs)
-written_all ys zs from n i long end e =
-    let all = take_all n ys (omega arith) in
-    cc
 
 -- slots copied to the place of the next level
 pub copy_levels_push : (k : ℕ) (slots copies new : List Object) → k * length slots + length slots ≤ length copies → new ≡ paste copies (k * length slots) slots (length slots) → copy_levels (k + 1) (length slots) new ≡ copy_levels k (length slots) copies ++ slots ∷ []

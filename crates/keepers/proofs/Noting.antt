@@ -213,11 +213,3 @@ open_sound notes counts n d few sound =
       named = λ k j h. sound.named k j (older k j h);
       claimed = λ k j h. sound.claimed k j (older k j h);
     }
-
--- fewer levels
-pub back_sound : (notes : List Note) (counts : List ℕ) (n d m : ℕ) → m ≤ d → Sound notes counts n d → Sound notes counts n m
-back_sound notes counts n d m fewer sound = record {
-  counted = λ k h. sound.counted k (omega arith);
-  named = λ k j h. let a = h.0 in sound.named k j (omega arith, h.1);
-  claimed = λ k j h. let a = h.0 in sound.claimed k j (omega arith, h.1);
-}

@@ -1,9 +1,10 @@
 -- What a journal keeper stands for.
-use Rattle.std.specs.Prelude.{◌≡◌, ℕ, ◌+◌, ◌-◌, ◌*◌, Bool, length, slice_index, slice_set}
+use Rattle.std.specs.Prelude.{◌≡◌, ℕ, ◌+◌, ◌-◌, ◌*◌, ◌<◌, ◌≤◌, Bool, length, slice_index, slice_set}
 use Rattle.objects.specs.declared.object.Object.{Object}
 use Rattle.keepers.specs.Kept.{Kept}
 use Rattle.keepers.specs.Notes.{note_at, is_noted, undone, noted_levels}
 use Rattle.keepers.specs.declared.journal.Journal.{Journal}
+use Rattle.keepers.specs.declared.note.Entry.{Entry}
 
 abbrev pub journal_kept : Journal → Kept
 journal_kept j = record {
@@ -26,6 +27,15 @@ has_newest j i = is_noted j.notes.now (newest_part j) (newest_count j) i
 -- the newest level's entry for slot i claims the note that would come next
 abbrev pub claims_next : Journal → ℕ → Type 0
 claims_next j i = (note_at j.notes.now (newest_part j + i)).at ≡ newest_count j
+
+-- an entry of the newest level: that level's part lies whole in the second memory, and the slot in the slots
+pub record OfNewest (j : Journal) (e : Entry) : Type 0 where
+  pub some : 0 < j.opened
+  pub few : j.opened ≤ 15
+  pub level : e.level ≡ j.opened - 1
+  pub base : e.base ≡ newest_part j
+  pub room : newest_part j + length j.slots.now ≤ length j.notes.now
+  pub inside : e.slot < length j.slots.now
 
 -- slot i may now be written: whatever goes there, the levels stay those that they were
 pub record Prepared (i : ℕ) (before after : Journal) : Type 0 where

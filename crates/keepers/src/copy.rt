@@ -8,10 +8,11 @@ use crate::keeper::Keeper;
 use crate::limit::level_limit;
 use objects::fault::Fault;
 use objects::object::Object;
-use objects::store::store;
+use objects::store::{load, store};
 
 // Level k's copy begins at place k times the slot count of the second memory.
 // Its open levels are the smaller of `opened` and the limit, so any contents of the fields stand for something.
+// Kept: no model, since what is proved of the steps names the places of the copies, which a view would hide.
 #[derive(Drop)]
 pub struct CopyKeeper<'m> {
     slots: &'m mut [Object],
@@ -22,6 +23,7 @@ pub struct CopyKeeper<'m> {
 
 impl<'m> CopyKeeper<'m> {
     // Stands for the memories as lent, with no level open.
+    #[tactic(auto, unfolding(crate::specs::Copies::copy_levels))]
     pub fn new(
         slots: &'m mut [Object],
         bytes: &'m mut [u8],
@@ -49,12 +51,7 @@ impl<'m> CopyKeeper<'m> {
         ensures value { result ≡ min self.now.opened (copies_limit self.now) }
         ensures room { result * length self.now.slots.now ≤ length self.now.copies.now }
     {
-        let limit = self.limit();
-        if self.opened < limit {
-            self.opened
-        } else {
-            limit
-        }
+        self.opened.min(self.limit())
     }
 
     // Copies all slots into the second memory, from a place on.
@@ -65,6 +62,7 @@ impl<'m> CopyKeeper<'m> {
         ensures opened { self.new.opened ≡ self.old.opened }
         ensures copies { self.new.copies.now ≡ paste self.old.copies.now from self.old.slots.now (length self.old.slots.now) }
     {
+        // Kept: the index, since slots and copies can't both be lent out of `self` at once (the borrow checker has no rule for it).
         for i in 0..self.slots.len() {
             let object = self.slots[i];
             copy_one(self.copies, from, i, object);
@@ -79,6 +77,7 @@ impl<'m> CopyKeeper<'m> {
         ensures opened { self.new.opened ≡ self.old.opened }
         ensures copies { self.new.copies.now ≡ self.old.copies.now }
     {
+        // Kept: the index and no `copy_from_slice`, since slots and copies can't both be lent out of `self` at once (the borrow checker has no rule for it).
         for i in 0..self.slots.len() {
             let object = self.copies[from + i];
             self.slots[i] = object;
@@ -98,33 +97,19 @@ impl Keeper for CopyKeeper<'_> {
     ghost kept = { copies_kept };
 
     fn slot(&self, at: usize) -> Result<Object, Fault> {
-        if at >= self.slots.len() {
-            return Err(Fault::RangeCheck);
-        }
-        Ok(self.slots[at])
+        load(self.slots, at)
     }
 
     fn byte(&self, at: usize) -> Result<u8, Fault> {
-        if at >= self.bytes.len() {
-            return Err(Fault::RangeCheck);
-        }
-        Ok(self.bytes[at])
+        load(self.bytes, at)
     }
 
     fn put_slot(&mut self, at: usize, object: Object) -> Result<(), Fault> {
-        if at >= self.slots.len() {
-            return Err(Fault::RangeCheck);
-        }
-        self.slots[at] = object;
-        Ok(())
+        store(self.slots, at, object)
     }
 
     fn put_byte(&mut self, at: usize, byte: u8) -> Result<(), Fault> {
-        if at >= self.bytes.len() {
-            return Err(Fault::RangeCheck);
-        }
-        self.bytes[at] = byte;
-        Ok(())
+        store(self.bytes, at, byte)
     }
 
     fn slot_count(&self) -> usize {
@@ -139,6 +124,7 @@ impl Keeper for CopyKeeper<'_> {
         self.limit()
     }
 
+    #[tactic(auto, using(crate::proofs::Copying::length_copy_levels))]
     fn open_levels(&self) -> usize {
         self.depth()
     }

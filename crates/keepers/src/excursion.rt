@@ -17,6 +17,7 @@ pub enum Move {
 }
 
 // Makes one move of an excursion from a level.
+// Kept: moves are values and no closures, since the law below speaks of every list of them.
 pub fn make_move<K: Keeper>(keeper: &mut K, from: usize, step: Move)
     ensures { K.kept keeper.new ≡ moved from step (K.kept keeper.old) }
 {
@@ -24,12 +25,8 @@ pub fn make_move<K: Keeper>(keeper: &mut K, from: usize, step: Move)
         Move::PutSlot { at, object } => keeper.put_slot(at, object),
         Move::PutByte { at, byte } => keeper.put_byte(at, byte),
         Move::Open => keeper.open_level(),
-        Move::Back { to } => {
-            if to <= from {
-                return;
-            }
-            keeper.back_to(to)
-        }
+        Move::Back { to } if from < to => keeper.back_to(to),
+        Move::Back { .. } => Ok(()),
     };
 }
 
@@ -48,11 +45,7 @@ pub fn there_and_back<K: Keeper>(keeper: &mut K, moves: &[Move]) -> Result<(), F
     ensures { ComesBack moves.now (K.kept keeper.old) (K.kept keeper.new) result }
 {
     let level = keeper.open_levels();
-    match keeper.open_level() {
-        Ok(()) => {
-            play(keeper, level, moves);
-            keeper.back_to(level)
-        }
-        Err(fault) => Err(fault),
-    }
+    keeper.open_level()?;
+    play(keeper, level, moves);
+    keeper.back_to(level)
 }

@@ -9,12 +9,14 @@ use objects::object::Object;
 pub mod keeping;
 
 // Level k's notes lie in its part of the second memory, which begins at k times the slot count.
+// Kept: no model, since what is proved of the steps names claims and notes, which a view would hide.
 #[derive(Drop)]
 pub struct Journal<'m> {
     slots: &'m mut [Object],
     bytes: &'m mut [u8],
     notes: &'m mut [Note],
     // how many notes each open level has
+    // Kept: an array and how many are open. As an ArrayVec, a count is written through the slice that it lends, and the ghost fields below stayed open over that.
     counts: [usize; 15],
     opened: usize,
     limit: usize,

@@ -8,6 +8,7 @@ use objects::object::Object;
 
 // A keeper stands for slots, bytes and a list of levels, each the slots as they once were. `kept` says for which.
 // A refusal changes nothing; sizes and limit never change.
+// Kept: slots and bytes have functions of their own, since a level keeps the slots alone: a slot put is undone on the way back, a byte put is not.
 pub trait Keeper {
     ghost kept: { Self → Kept };
 

@@ -15,10 +15,5 @@ pub fn level_limit(slots: usize, second: usize) -> usize
     if slots == 0 {
         return 0;
     }
-    let whole = second / slots;
-    if whole < MOST_LEVELS {
-        whole
-    } else {
-        MOST_LEVELS
-    }
+    MOST_LEVELS.min(second / slots)
 }

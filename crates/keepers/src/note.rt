@@ -19,3 +19,11 @@ impl Note {
         at: 0,
     };
 }
+
+// A slot's record in an open level's part of the second memory, which begins at `base`.
+#[derive(Clone, Copy)]
+pub(crate) struct Entry {
+    pub(crate) level: usize,
+    pub(crate) base: usize,
+    pub(crate) slot: usize,
+}

@@ -1,18 +1,20 @@
 // The journal keeper's calls.
-ghost use Rattle.std.specs.Prelude.{◌≡◌, ℕ, ◌+◌, ◌-◌, ◌*◌, ◌<◌, ◌≤◌, false, length};
+ghost use Rattle.std.specs.Prelude.{◌≡◌, ◌+◌, ◌-◌, ◌*◌, ◌<◌, ◌≤◌, false, length, IfSome, IfNone};
 ghost use Rattle.objects.specs.declared.object.Object.{Object};
-ghost use Rattle.keepers.specs.Journals.{journal_kept, newest_part, newest_count, has_newest, claims_next, Prepared, PlayedBack};
+ghost use Rattle.keepers.specs.Journals.{journal_kept, has_newest, claims_next, OfNewest, Prepared, PlayedBack};
 ghost use Rattle.keepers.specs.Kept.{fresh, level_limit};
 
 use super::Journal;
 use crate::keeper::Keeper;
 use crate::limit::level_limit;
-use crate::note::Note;
+use crate::note::{Entry, Note};
 use objects::fault::Fault;
 use objects::object::Object;
+use objects::store::{load, store};
 
 impl<'m> Journal<'m> {
     // A journal over lent memory of any length and with any contents.
+    #[tactic(auto, unfolding(crate::specs::Notes::noted_levels))]
     pub fn new(slots: &'m mut [Object], bytes: &'m mut [u8], notes: &'m mut [Note]) -> Journal<'m>
         ensures { journal_kept result ≡ fresh slots.old bytes.old (level_limit (length slots.old) (length notes.old)) }
     {
@@ -36,68 +38,74 @@ impl Journal<'_> {
         ensures room { result + length self.now.slots.now ≤ length self.now.notes.now }
         ensures few { self.now.opened ≤ 15 }
     {
+        // named for the proof alone: it brings what the type says of the notes (its ghost fields) into it
         let _ = self.notes.len();
         level * self.slots.len()
     }
 
-    // Whether the newest level has a note of the slot.
-    fn has_note(&self, at: usize) -> bool
-        requires some_open { 0 < self.now.opened }
-        requires inside { at < length self.now.slots.now }
-        ensures { result ≡ has_newest self.now at }
+    // The slot's entry in the newest level's part, if a level is open.
+    fn newest_entry(&self, slot: usize) -> Option<Entry>
+        requires { slot < length self.now.slots.now }
+        ensures some { IfSome result (λ e. OfNewest self.now e × (e.slot ≡ slot)) }
+        ensures none { IfNone result (self.now.opened ≡ 0) }
     {
-        let newest = self.opened - 1;
-        let base = self.part(newest);
-        let claim = self.notes[base + at].at;
-        claim < self.counts[newest] && self.notes[base + claim].slot == at
+        let level = self.opened.checked_sub(1)?;
+        let base = self.part(level);
+        Some(Entry { level, base, slot })
+    }
+
+    // Whether the newest level has a note of the slot.
+    fn has_note(&self, entry: Entry) -> bool
+        requires { OfNewest self.now entry }
+        ensures { result ≡ has_newest self.now entry.slot }
+    {
+        let Entry { level, base, slot } = entry;
+        let claim = self.notes[base + slot].at;
+        claim < self.counts[level] && self.notes[base + claim].slot == slot
     }
 
     // Claims the next note of the newest level for the slot, which has none yet.
-    fn claim_note(&mut self, at: usize)
-        requires some_open { 0 < self.old.opened }
-        requires inside { at < length self.old.slots.now }
-        requires free { has_newest self.old at ≡ false }
+    fn claim_note(&mut self, entry: Entry)
+        requires newest { OfNewest self.old entry }
+        requires free { has_newest self.old entry.slot ≡ false }
+        ensures newest { OfNewest self.new entry }
+        ensures claims { claims_next self.new entry.slot }
         ensures same { journal_kept self.new ≡ journal_kept self.old }
-        ensures opened { self.new.opened ≡ self.old.opened }
-        ensures claims { claims_next self.new at }
     {
-        let newest = self.opened - 1;
-        let base = self.part(newest);
-        self.notes[base + at].at = self.counts[newest];
+        let Entry { level, base, slot } = entry;
+        self.notes[base + slot].at = self.counts[level];
     }
 
     // Takes the claimed note: the slot's object, as it is now, for the newest level.
-    fn take_note(&mut self, at: usize)
-        requires some_open { 0 < self.old.opened }
-        requires inside { at < length self.old.slots.now }
-        requires claimed { claims_next self.old at }
-        ensures { Prepared at self.old self.new }
+    fn take_note(&mut self, entry: Entry)
+        requires newest { OfNewest self.old entry }
+        requires claimed { claims_next self.old entry.slot }
+        ensures { Prepared entry.slot self.old self.new }
     {
-        let newest = self.opened - 1;
-        let count = self.counts[newest];
-        let place = self.part(newest) + count;
-        let note = Note {
-            slot: at,
-            old: self.slots[at],
-            at: self.notes[place].at,
+        let Entry { level, base, slot } = entry;
+        let count = self.counts[level];
+        let place = base + count;
+        self.notes[place] = Note {
+            slot,
+            old: self.slots[slot],
+            ..self.notes[place]
         };
-        self.notes[place] = note;
-        self.counts[newest] = count + 1;
+        self.counts[level] = count + 1;
     }
 
     // Makes the slot ready for a change: the newest level has a note of it.
-    fn prepare(&mut self, at: usize)
-        requires { at < length self.old.slots.now }
-        ensures { Prepared at self.old self.new }
+    fn prepare(&mut self, slot: usize)
+        requires { slot < length self.old.slots.now }
+        ensures { Prepared slot self.old self.new }
     {
-        if self.opened == 0 {
+        let Some(entry) = self.newest_entry(slot) else {
+            return;
+        };
+        if self.has_note(entry) {
             return;
         }
-        if self.has_note(at) {
-            return;
-        }
-        self.claim_note(at);
-        self.take_note(at);
+        self.claim_note(entry);
+        self.take_note(entry);
     }
 
     // Plays back a level's notes, the newest first.
@@ -106,6 +114,7 @@ impl Journal<'_> {
         ensures { PlayedBack level self.old self.new }
     {
         let base = self.part(level);
+        // Kept: the index, since notes and slots can't both be lent out of `self` at once (the borrow checker has no rule for it).
         for j in (0..self.counts[level]).rev() {
             let note = self.notes[base + j];
             self.slots[note.slot] = note.old;
@@ -117,19 +126,11 @@ impl Keeper for Journal<'_> {
     ghost kept = { journal_kept };
 
     fn slot(&self, at: usize) -> Result<Object, Fault> {
-        if at < self.slots.len() {
-            Ok(self.slots[at])
-        } else {
-            Err(Fault::RangeCheck)
-        }
+        load(self.slots, at)
     }
 
     fn byte(&self, at: usize) -> Result<u8, Fault> {
-        if at < self.bytes.len() {
-            Ok(self.bytes[at])
-        } else {
-            Err(Fault::RangeCheck)
-        }
+        load(self.bytes, at)
     }
 
     fn put_slot(&mut self, at: usize, object: Object) -> Result<(), Fault> {
@@ -137,16 +138,11 @@ impl Keeper for Journal<'_> {
             return Err(Fault::RangeCheck);
         }
         self.prepare(at);
-        self.slots[at] = object;
-        Ok(())
+        store(self.slots, at, object)
     }
 
     fn put_byte(&mut self, at: usize, byte: u8) -> Result<(), Fault> {
-        if at >= self.bytes.len() {
-            return Err(Fault::RangeCheck);
-        }
-        self.bytes[at] = byte;
-        Ok(())
+        store(self.bytes, at, byte)
     }
 
     fn slot_count(&self) -> usize {
@@ -161,6 +157,7 @@ impl Keeper for Journal<'_> {
         self.limit
     }
 
+    #[tactic(auto, using(crate::proofs::Undoing::length_levels))]
     fn open_levels(&self) -> usize {
         self.opened
     }

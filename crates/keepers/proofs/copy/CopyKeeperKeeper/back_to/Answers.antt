@@ -7,19 +7,22 @@ use Rattle.keepers.proofs.copy.CopyKeeperKeeper.back_to.Goals as goal
 pub returns-then-level-depth : goal.returns-then-level-depth
 returns-then-level-depth c = grind (arith, nat_tests, length_copy_levels)
 
-pub write_back-requires : goal.write_back-requires
-write_back-requires c =
-    let before = c.args.self.now in
-    let room = part_room c.args.level c.depth-depth.result (length before.slots.now) (length before.copies.now)
-    c.if-level-depth.false c.depth-depth.ensures.room in
-    omega arith
-
-pub returns : goal.returns
-returns c =
+pub returns-clause-answer : goal.returns-clause-answer
+returns-clause-answer c =
     let before = c.args.self.now in
     let left = c.write_back.new.self in
     let room = part_room c.args.level c.depth-depth.result (length before.slots.now) (length before.copies.now)
     c.if-level-depth.false c.depth-depth.ensures.room in
     let leaves = back_leaves before.slots.now left.slots.now before.copies.now left.copies.now before.bytes.now left.bytes.now
     before.opened c.depth-depth.result c.depth-depth.ensures.value c.args.level c.if-level-depth.false (cc) room (cc) (cc) in
-    record { answer = grind (arith, nat_tests, length_copy_levels); state = cc }
+    grind (arith, nat_tests, length_copy_levels)
+
+pub returns-clause-state : goal.returns-clause-state
+returns-clause-state c =
+    let before = c.args.self.now in
+    let left = c.write_back.new.self in
+    let room = part_room c.args.level c.depth-depth.result (length before.slots.now) (length before.copies.now)
+    c.if-level-depth.false c.depth-depth.ensures.room in
+    let leaves = back_leaves before.slots.now left.slots.now before.copies.now left.copies.now before.bytes.now left.bytes.now
+    before.opened c.depth-depth.result c.depth-depth.ensures.value c.args.level c.if-level-depth.false (cc) room (cc) (cc) in
+    cc

@@ -1,15 +1,7 @@
-use Rattle.std.proofs.Common.{◌≡◌, ℕ, ◌+◌, ◌-◌, ◌<◌, get_or, set, sym, refl, ap, ◌∙◌, subst, arith}
-use Rattle.std.proofs.lemmas.List.{length-set}
+use Rattle.std.proofs.Common.{◌≡◌, ◌+◌, ◌-◌, ◌<◌, get_or, set, sym, ap, ◌∙◌, arith}
 use Rattle.keepers.specs.Notes.{note_at, undone}
-use Rattle.keepers.proofs.Orders.{Order, ordered, sound_journal}
 use Rattle.keepers.proofs.Undoing.{undone_newest, undone_none}
 use Rattle.keepers.proofs.journal.Journal.play_back.Goals as goal
-
-pub invariant_of-self : goal.invariant_of-self
-invariant_of-self c =
-    let j = c.loop-j.self in
-    let o = subst (λ (n : ℕ). Order n j.limit j.opened j.notes.now j.counts) (sym (length-set j.slots.now (note_at j.notes.now (c.part-base.result + (c.loop-j.j - 1))).slot (note_at j.notes.now (c.part-base.result + (c.loop-j.j - 1))).old)) (ordered j j.notes.now j.counts refl (sound_journal j)) in
-    record { limited = o.limited; within = o.within; counted = o.counted; named = o.named; claimed = o.claimed }
 
 pub loop-j-preserved : goal.loop-j-preserved
 loop-j-preserved c =

@@ -1,6 +1,7 @@
-use Rattle.std.proofs.Common.{◌≡◌, ℕ, ◌+◌, ◌-◌, ◌*◌, ◌<◌, ◌≤◌, true, false, ltb, [], ◌∷◌, ◌++◌, length, get_or, take, sym, refl, ap, ◌∙◌, subst, arith}
+use Rattle.std.proofs.Common.{◌≡◌, ℕ, ◌+◌, ◌-◌, ◌*◌, ◌<◌, ◌≤◌, true, ltb, [], ◌∷◌, ◌++◌, length, get_or, take, sym, refl, ap, ◌∙◌, subst, arith}
 use Rattle.std.proofs.lemmas.List.{take_all, length_push}
-use Rattle.std.proofs.lemmas.Bool.{lt-ltb, le-ltb}
+use Rattle.std.proofs.lemmas.Bool.{lt-ltb}
+use Rattle.std.proofs.lemmas.Bool.Decides.{nat_tests}
 use Rattle.keepers.specs.Journals.{journal_kept}
 use Rattle.keepers.specs.Kept.{Kept, with_slots, with_levels}
 use Rattle.objects.specs.declared.fault.Fault.TheVariants.{InvalidRestore}
@@ -8,7 +9,7 @@ use Rattle.keepers.specs.Notes.{undone, noted_levels}
 use Rattle.keepers.specs.declared.journal.Journal.{Journal}
 use Rattle.keepers.proofs.Kept.{kept_same}
 use Rattle.keepers.proofs.Fronts.{front_less, front_ends}
-use Rattle.keepers.proofs.Outcomes.{accepted_heard, accepted_after, refused_heard, refused_after}
+use Rattle.keepers.proofs.Outcomes.{accepted_after}
 use Rattle.keepers.proofs.Undoing.{length_levels, levels_back}
 use Rattle.keepers.proofs.journal.keeping.JournalKeeper.back_to.Goals as goal
 
@@ -16,16 +17,11 @@ module _ (j : Journal) (level : ℕ) where
   long : length (journal_kept j).levels ≡ j.opened
   long = length_levels j.notes.now j.counts j.opened j.slots.now
 
-  closed : j.opened ≤ level → ltb level (length (journal_kept j).levels) ≡ false
-  closed h = let e = long in le-ltb _ _ (omega arith)
-
   is_open : level < j.opened → ltb level (length (journal_kept j).levels) ≡ true
   is_open h = let e = long in lt-ltb _ _ (omega arith)
 
 pub returns-then-level-self : goal.returns-then-level-self
-returns-then-level-self c =
-    let told = closed c.args.self.now c.args.level c.if-level-self.true in
-    record { answer = refused_heard _ _ _ told; state = refused_after _ _ _ _ told }
+returns-then-level-self c = grind (arith, nat_tests, length_levels)
 
 pub loop-newest-init : goal.loop-newest-init
 loop-newest-init c =
@@ -75,4 +71,4 @@ returns c =
     let bytes = inv.3 in
     let limit = inv.7 in
     let accepted = accepted_after _ back InvalidRestore (journal_kept old) told in
-    record { answer = accepted_heard _ _ _ told; state = kept_same _ back (cc) (cc) (cc) (cc) ∙ accepted }
+    record { answer = grind (arith, nat_tests, length_levels); state = kept_same _ back (cc) (cc) (cc) (cc) ∙ accepted }
