@@ -2,10 +2,7 @@ pub mod Defining
 pub mod Filling
 pub mod Looking
 pub mod Making
-pub mod Newest
 pub mod Pairs
-pub mod Passing
 pub mod Restoring
-pub mod SavePlaces
 pub mod Searches
 pub mod Taken

@@ -8,7 +8,7 @@ use Rattle.objects.specs.declared.fault.Fault.TheVariants.{VmError}
 use Rattle.objects.specs.declared.object.Value.TheVariants as value
 use Rattle.keepers.specs.Kept.{blank}
 use Rattle.memory.specs.Dictionaries.{slot_in, header_of, header_in, header_object, first_pair, with_header, dictionary_made}
-use Rattle.memory.specs.Memories.{InUse, filled, with_slot, with_slot_top, blanked, slot_room}
+use Rattle.memory.specs.Memories.{InUse, filled, with_slot, with_slot_top, slots, emptied, room}
 use Rattle.memory.specs.Pairs.{MadeAt, Made}
 use Rattle.memory.specs.declared.key.Key.{Key}
 use Rattle.memory.proofs.Taken.{filled_below}
@@ -26,15 +26,15 @@ no_pairs : (m : InUse) (d : ℕ) (k : Key) → first_pair m d k 0 0 ≡ None
 unfolding first_pair
 no_pairs m d k = refl
 
-module _ (n : ℕ) (m : InUse) (room : m.slot_top + (1 + 2 * n) ≤ length m.kept.slots) where
+module _ (n : ℕ) (m : InUse) (fits : m.slot_top + (1 + 2 * n) ≤ length m.kept.slots) where
   abbrev mid : InUse
-  mid = with_slot_top (m.slot_top + (1 + 2 * n)) (blanked m.slot_top (1 + 2 * n) m)
+  mid = with_slot_top (m.slot_top + (1 + 2 * n)) (emptied slots m.slot_top (1 + 2 * n) m)
 
   abbrev new : InUse
   new = with_slot m.slot_top (header_object 0 n) mid
 
   long : length mid.kept.slots ≡ length m.kept.slots
-  long = filled_long m.kept.slots m.slot_top (1 + 2 * n) blank room
+  long = filled_long m.kept.slots m.slot_top (1 + 2 * n) blank fits
 
   top : slot_in new m.slot_top ≡ header_object 0 n
   top = let l = long in get_or-set_same mid.kept.slots m.slot_top (header_object 0 n) blank (omega arith)
@@ -59,13 +59,13 @@ module _ (n : ℕ) (m : InUse) (room : m.slot_top + (1 + 2 * n) ≤ length m.kep
         };
         older = λ i h.
             get_or-set_other mid.kept.slots m.slot_top i (header_object 0 n) blank (omega arith)
-            ∙ filled_below m.kept.slots m.slot_top (1 + 2 * n) blank blank room i h;
+            ∙ filled_below m.kept.slots m.slot_top (1 + 2 * n) blank blank fits i h;
       }
 
 pub made : (n : ℕ) (m new : InUse) (r : Result ℕ Fault) → new ≡ after (dictionary_made n m) m → r ≡ answered (dictionary_made n m) m.slot_top → Made m new n r
 made n m end r is said =
-    let way = λ (b : Bool). with_header m.slot_top n (cond b (Ok (with_slot_top (m.slot_top + (1 + 2 * n)) (blanked m.slot_top (1 + 2 * n) m))) (Err VmError)) in
-    elim (cases_Bool (leb (m.slot_top + (1 + 2 * n)) (slot_room m))) [
+    let way = λ (b : Bool). with_header m.slot_top n (cond b (Ok (with_slot_top (m.slot_top + (1 + 2 * n)) (emptied slots m.slot_top (1 + 2 * n) m))) (Err VmError)) in
+    elim (cases_Bool (leb (m.slot_top + (1 + 2 * n)) (room slots m))) [
       | inl t ↦ (let fit = leb-true _ _ t in
           let room : m.slot_top + (1 + 2 * n) ≤ length m.kept.slots = omega arith in
           let end_is = is ∙ ap (λ b. after (way b) m) t in

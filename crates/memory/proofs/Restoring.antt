@@ -1,6 +1,9 @@
 -- Saves found by their numbers, made, and gone back to.
-use Rattle.std.proofs.Common.{◌≡◌, ℕ, zero, suc, ◌+◌, ◌<◌, ◌≤◌, Bool, true, false, cond, ◌&&◌, eqb, ltb, ◌⊎◌, List, [], ◌∷◌, ◌++◌, length, get_or, take, Some, None, Ok, Err, Result, sym, refl, ap, ◌∙◌, subst, inl, inr, arith}
-use Rattle.std.proofs.lemmas.List.{append_assoc, take_at, get_or_at, length-append}
+use Rattle.std.proofs.Common.{◌≡◌, ℕ, ◌<◌, ◌≤◌, Bool, true, false, cond, ◌&&◌, eqb, ltb, ◌⊎◌, List, [], ◌∷◌, ◌++◌, length, get_or, take, Some, None, Ok, Err, Result, sym, refl, ap, ◌∙◌, subst, inl, inr, arith}
+use Rattle.std.proofs.lemmas.List.{append_assoc, take_at, get_or_at, get_or_append_left, length-append}
+use Rattle.std.proofs.lemmas.List.Quantifiers.{position-Some}
+use Rattle.std.proofs.lemmas.List.Sums.{position_or_len_is, fails_before_first}
+use Rattle.std.specs.List.{position_or_len}
 use Rattle.std.proofs.lemmas.Bool.{eqb-true, eqb-false, eq-eqb, ne_eqb, ltb-true, ltb-false, lt-ltb, and_parts, and_cases, cases_Bool}
 use Rattle.objects.specs.Outcomes.{after, heard, answered}
 use Rattle.objects.specs.declared.fault.Fault.{Fault}
@@ -8,70 +11,34 @@ use Rattle.objects.specs.declared.fault.Fault.TheVariants.{LimitCheck, InvalidRe
 use Rattle.keepers.specs.Kept.{Kept, with_slots, with_levels, open_level}
 use Rattle.memory.specs.Memories.{InUse}
 use Rattle.memory.specs.Saves.{OpenAt, NoneOpen, ComesBack, Grown, SaveMade, Saving, WentBack, GoingBack}
-use Rattle.memory.specs.Saving.{next_number, recorded, if_opened, save_made, save_from, save_place, no_save, returned, if_back, if_open, back_to_save}
+use Rattle.memory.specs.Saving.{next_number, recorded, if_opened, save_made, save_place, no_save, returned, if_back, if_open, back_to_save}
 use Rattle.memory.specs.declared.saves.Saved.{Saved}
 use Rattle.memory.proofs.Looking.{cases_option}
 
--- save i is the first with number n of a list that is counted from o
-record From (n o : ℕ) (ss : List Saved) (i : ℕ) : Type 0 where
-  place : ℕ
-  is : i ≡ o + place
-  inside : place < length ss
-  numbered : (get_or ss place no_save).number ≡ n
-  first : (j : ℕ) → j < place → (get_or ss j no_save).number ≡ n → ⊥
-
 module _ (n : ℕ) where
-  one_more : (s : Saved) (ss : List Saved) (p : ℕ) → (s.number ≡ n → ⊥) → ((j : ℕ) → j < p → (get_or ss j no_save).number ≡ n → ⊥) → (j : ℕ) → j < suc p → (get_or (s ∷ ss) j no_save).number ≡ n → ⊥
-  one_more s ss p here rest zero h = here
-  one_more s ss p here rest (suc j) h = rest j (omega arith)
+  abbrev numbered : Saved → Bool
+  numbered s = eqb s.number n
 
-  found : (ss : List Saved) (o i : ℕ) → save_from n o ss ≡ Some i → From n o ss i
-  unfolding save_from
-  found [] o i e = absurd (let z : ◌≡◌ {A = ℕ} 0 1 = cc in omega arith)
-  found (s ∷ ss) o i e =
-      let way = λ (b : Bool). cond b (Some o) (save_from n (o + 1) ss) in
-      elim (cases_Bool (eqb s.number n)) [
-        | inl t ↦ (let same : o ≡ i = (let u = ap way t in cc) in
-            record { place = 0; is = omega arith; inside = omega arith; numbered = eqb-true s.number n t; first = λ j h. absurd (omega arith) })
-        | inr f ↦ (let rest = found ss (o + 1) i (sym (ap way f) ∙ e) in
-            let is = rest.is in
-            let inside = rest.inside in
-            record {
-              place = suc rest.place;
-              is = omega arith;
-              inside = omega arith;
-              numbered = rest.numbered;
-              first = one_more s ss rest.place (eqb-false s.number n f) rest.first;
-            })
-      ]
-
-  pub none_open : (ss : List Saved) (o : ℕ) → save_from n o ss ≡ None → NoneOpen n ss
-  unfolding save_from
-  none_open [] o e = λ j h. absurd (omega arith)
-  none_open (s ∷ ss) o e =
-      let way = λ (b : Bool). cond b (Some o) (save_from n (o + 1) ss) in
-      elim (cases_Bool (eqb s.number n)) [
-        | inl t ↦ absurd (let u = ap way t in let z : ◌≡◌ {A = ℕ} 0 1 = cc in omega arith)
-        | inr f ↦ one_more s ss (length ss) (eqb-false s.number n f) (none_open ss (o + 1) (sym (ap way f) ∙ e))
+  pub none_open : (ss : List Saved) → save_place n ss ≡ None → NoneOpen n ss
+  none_open ss e j h =
+      elim (cases_Bool (ltb (position_or_len numbered ss) (length ss))) [
+        | inl t ↦ absurd (let u = ap (λ b. cond b (Some (position_or_len numbered ss)) None) t in let z : ◌≡◌ {A = ℕ} 0 1 = cc in omega arith)
+        | inr f ↦ eqb-false (get_or ss j no_save).number n (fails_before_first numbered ss j no_save (let past = ltb-false _ _ f in omega arith))
       ]
 
   -- a save behind others without its number is found there, whatever follows
-  pub found_behind : (ss : List Saved) (s : Saved) (rest : List Saved) (o : ℕ) → NoneOpen n ss → s.number ≡ n → save_from n o (ss ++ s ∷ rest) ≡ Some (o + length ss)
-  unfolding save_from
-  found_behind [] s rest o none here =
-      let z : o ≡ o + 0 = omega arith in
-      ap (λ b. cond b (Some o) (save_from n (o + 1) rest)) (eq-eqb s.number n here) ∙ ap Some z
-  found_behind (t ∷ ss) s rest o none here =
-      let z : o + 1 + length ss ≡ o + suc (length ss) = omega arith in
-      ap (λ b. cond b (Some o) (save_from n (o + 1) (ss ++ s ∷ rest))) (ne_eqb t.number n (none 0 (omega arith)))
-      ∙ found_behind ss s rest (o + 1) (λ j h. none (suc j) (omega arith)) here
-      ∙ ap Some z
+  pub found_behind : (ss : List Saved) (s : Saved) (rest : List Saved) → NoneOpen n ss → s.number ≡ n → save_place n (ss ++ s ∷ rest) ≡ Some (length ss)
+  found_behind ss s rest none here =
+      let all = length-append ss (s ∷ rest) in
+      let first = position_or_len_is numbered (ss ++ s ∷ rest) (length ss) no_save (omega arith)
+      (λ k h. ap numbered (get_or_append_left ss (s ∷ rest) no_save k h) ∙ ne_eqb _ _ (none k h))
+      (λ _. ap numbered (get_or_at ss s rest no_save (length ss) refl) ∙ eq-eqb s.number n here) in
+      rw first (rw (lt-ltb (length ss) (length (ss ++ s ∷ rest)) (omega arith)) refl)
 
   pub open_at : (ss : List Saved) (i : ℕ) → save_place n ss ≡ Some i → OpenAt n ss i
   open_at ss i e =
-      let at = found ss 0 i e in
-      let same : at.place ≡ i = let is = at.is in omega arith in
-      subst (λ p. OpenAt n ss p) same (record { inside = at.inside; numbered = at.numbered; first = at.first })
+      let at = position-Some numbered ss i no_save e in
+      record { inside = at.0; numbered = eqb-true _ _ at.1; first = λ j h. eqb-false _ _ (at.2 j h) }
 
 -- gone back, or refused
 module _ (n : ℕ) (m new : InUse) where
@@ -94,7 +61,7 @@ module _ (n : ℕ) (m new : InUse) where
       elim (cases_option (save_place n m.saves)) [
         | inl none ↦ (let same = is ∙ ap (λ p. after (if_open m p) m) none in
             let told = said ∙ ap (λ p. heard (if_open m p)) none in
-            subst (λ x. GoingBack m new n x) (sym told) (record { fault = refl; same = same; closed = inl (none_open n m.saves 0 none) }))
+            subst (λ x. GoingBack m new n x) (sym told) (record { fault = refl; same = same; closed = inl (none_open n m.saves none) }))
         | inr some ↦ (let i = some.0 in
             let at = is ∙ ap (λ p. after (if_open m p) m) some.1 in
             let told = said ∙ ap (λ p. heard (if_open m p)) some.1 in
@@ -127,9 +94,7 @@ module _ (m new later : InUse) (n : ℕ) (newest : new.saves ≡ m.saves ++ (rec
   back = with_slots (get_or later.kept.levels i []) (with_levels (take i later.kept.levels) later.kept)
 
   there : save_place n later.saves ≡ Some i
-  there =
-      let z : 0 + i ≡ i = omega arith in
-      ap (save_from n 0) saves_on ∙ found_behind n m.saves this grown.more 0 none refl ∙ ap Some z
+  there = ap (save_place n) saves_on ∙ found_behind n m.saves this grown.more none refl
 
   deep : i < length later.kept.levels
   deep =

@@ -4,9 +4,8 @@ use Rattle.std.proofs.lemmas.List.{length-take-le, length-replicate, get_or_appe
 use Rattle.std.proofs.lemmas.Bool.{leb-true, cond_both}
 use Rattle.objects.specs.Outcomes.{after}
 use Rattle.objects.specs.declared.fault.Fault.TheVariants.{VmError}
-use Rattle.keepers.specs.Kept.{blank}
-use Rattle.memory.specs.Memories.{InUse, filled, blanked, zeroed, slot_room, byte_room, with_slot_top, with_byte_top, take_slots, take_bytes}
-use Rattle.memory.specs.Taken.{SlotsTaken, BytesTaken}
+use Rattle.memory.specs.Memories.{InUse, Part, Lawful, filled, emptied, room, taken}
+use Rattle.memory.specs.Taken.{Taken}
 
 module _ {A : Type 0} (xs : List A) (top n : ℕ) (x d : A) (room : top + n ≤ length xs) where
   front : length (take top xs) ≡ top
@@ -32,56 +31,35 @@ module _ {A : Type 0} (xs : List A) (top n : ℕ) (x d : A) (room : top + n ≤ 
       ∙ get_or-drop (top + n) xs (i - top - n) d
       ∙ ap (λ k. get_or xs k d) place
 
-slots_kept : (m : InUse) → SlotsTaken m m
-slots_kept m = record {
-  rises = omega arith;
-  older = λ i h. refl;
-  taken = λ i low high. absurd (omega arith);
-  free = λ i h. refl;
-  bytes = refl;
-}
+module _ {A : Type 0} (p : Part A) (laws : Lawful p) where
+  kept : (m : InUse) → Taken p m m
+  kept m = record {
+    rises = omega arith;
+    older = λ i h. refl;
+    taken = λ i low high. absurd (omega arith);
+    free = λ i h. refl;
+    rest = laws.same m.kept;
+  }
 
-slots_above : (n : ℕ) (m : InUse) → leb (m.slot_top + n) (slot_room m) ≡ true → SlotsTaken m (with_slot_top (m.slot_top + n) (blanked m.slot_top n m))
-slots_above n m fits =
-    let fit = leb-true _ _ fits in
-    let room : m.slot_top + n ≤ length m.kept.slots = omega arith in
-    record {
-      rises = omega arith;
-      older = filled_below m.kept.slots m.slot_top n blank blank room;
-      taken = filled_here m.kept.slots m.slot_top n blank blank room;
-      free = filled_past m.kept.slots m.slot_top n blank blank room;
-      bytes = refl;
-    }
+  above : (n : ℕ) (m : InUse) → leb (p.top m + n) (room p m) ≡ true → Taken p m (p.with_top (p.top m + n) (emptied p (p.top m) n m))
+  above n m told =
+      let fit = leb-true _ _ told in
+      let xs = p.cells m.kept in
+      let fits : p.top m + n ≤ length xs = omega arith in
+      let new = p.with_top (p.top m + n) (emptied p (p.top m) n m) in
+      let end : p.top new ≡ p.top m + n = laws.topped _ _ in
+      let all = laws.kept_topped (p.top m + n) (emptied p (p.top m) n m) in
+      let cells : p.cells new.kept ≡ filled (p.top m) n p.empty xs = ap p.cells all ∙ laws.read _ _ in
+      record {
+        rises = omega arith;
+        older = λ i h. ap (λ l. get_or l i p.empty) cells ∙ filled_below xs (p.top m) n p.empty p.empty fits i h;
+        taken = λ i low high. ap (λ l. get_or l i p.empty) cells ∙ filled_here xs (p.top m) n p.empty p.empty fits i low (omega arith);
+        free = λ i high. ap (λ l. get_or l i p.empty) cells ∙ filled_past xs (p.top m) n p.empty p.empty fits i (omega arith);
+        rest = ap (p.with_cells xs) all ∙ laws.again xs _ m.kept ∙ laws.same m.kept;
+      }
 
-pub slots_taken : (n : ℕ) (m new : InUse) → new ≡ after (take_slots n m) m → SlotsTaken m new
-slots_taken n m new is =
-    subst (λ k. SlotsTaken m k) (sym is)
-    (cond_both (leb (m.slot_top + n) (slot_room m)) (Ok (with_slot_top (m.slot_top + n) (blanked m.slot_top n m))) (Err VmError) (λ r. SlotsTaken m (after r m))
-    (slots_above n m) (λ _. slots_kept m))
-
-bytes_kept : (m : InUse) → BytesTaken m m
-bytes_kept m = record {
-  rises = omega arith;
-  older = λ i h. refl;
-  taken = λ i low high. absurd (omega arith);
-  free = λ i h. refl;
-  slots = refl;
-}
-
-bytes_above : (n : ℕ) (m : InUse) → leb (m.byte_top + n) (byte_room m) ≡ true → BytesTaken m (with_byte_top (m.byte_top + n) (zeroed m.byte_top n m))
-bytes_above n m fits =
-    let fit = leb-true _ _ fits in
-    let room : m.byte_top + n ≤ length m.kept.bytes = omega arith in
-    record {
-      rises = omega arith;
-      older = filled_below m.kept.bytes m.byte_top n 0 0 room;
-      taken = filled_here m.kept.bytes m.byte_top n 0 0 room;
-      free = filled_past m.kept.bytes m.byte_top n 0 0 room;
-      slots = refl;
-    }
-
-pub bytes_taken : (n : ℕ) (m new : InUse) → new ≡ after (take_bytes n m) m → BytesTaken m new
-bytes_taken n m new is =
-    subst (λ k. BytesTaken m k) (sym is)
-    (cond_both (leb (m.byte_top + n) (byte_room m)) (Ok (with_byte_top (m.byte_top + n) (zeroed m.byte_top n m))) (Err VmError) (λ r. BytesTaken m (after r m))
-    (bytes_above n m) (λ _. bytes_kept m))
+  pub taken_above : (n : ℕ) (m new : InUse) → new ≡ after (taken p n m) m → Taken p m new
+  taken_above n m new is =
+      subst (λ k. Taken p m k) (sym is)
+      (cond_both (leb (p.top m + n) (room p m)) (Ok (p.with_top (p.top m + n) (emptied p (p.top m) n m))) (Err VmError) (λ r. Taken p m (after r m))
+      (above n m) (λ _. kept m))

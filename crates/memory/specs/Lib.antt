@@ -6,4 +6,3 @@ pub mod Pairs
 pub mod Saves
 pub mod Saving
 pub mod Taken
-pub mod Views

@@ -1,5 +1,6 @@
 -- What is newer than a save: what lies in memory taken since, and the save itself and those after it.
-use Rattle.std.specs.Prelude.{◌≡◌, ℕ, ◌<◌, Bool, true, false, ◌&&◌, ◌||◌, List, [], ◌∷◌, length, nat_le, nat_lt, slice_index_or}
+use Rattle.std.specs.Prelude.{◌≡◌, ℕ, ◌<◌, Bool, true, false, ◌&&◌, List, length, nat_le, nat_lt, slice_index_or}
+use Rattle.std.specs.List.{list_any}
 use Rattle.objects.specs.declared.object.Object.{Object}
 use Rattle.objects.specs.declared.object.Span.{Span}
 use Rattle.objects.specs.declared.object.Value.{Value}
@@ -24,9 +25,8 @@ newer s (Dictionary d) = nat_le s.slot_top d
 newer s (Save n) = nat_le s.number n
 newer s (Header h) = false
 
-unfoldable pub any_newer : Saved → List Object → Bool
-any_newer s [] = false
-any_newer s (o ∷ os) = newer s o.value || any_newer s os
+abbrev pub any_newer : Saved → List Object → Bool
+any_newer s os = list_any (λ o. newer s o.value) os
 
 -- of many objects: yes where one of them is newer, no where none is
 pub record AnyNewer (s : Saved) (os : List Object) (r : Bool) : Type 0 where

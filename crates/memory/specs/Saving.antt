@@ -1,5 +1,6 @@
 -- Saves: numbered from 1, each opening a level and recording both tops.
 use Rattle.std.specs.Prelude.{ℕ, ◌+◌, Bool, cond, ◌&&◌, List, [], ◌∷◌, ◌++◌, length, take, Some, None, Ok, Err, Option, Result, ◌==◌, nat_lt, slice_index_or}
+use Rattle.std.specs.List.{position}
 use Rattle.objects.specs.declared.fault.Fault.{Fault}
 use Rattle.objects.specs.declared.fault.Fault.TheVariants.{LimitCheck, InvalidRestore}
 use Rattle.keepers.specs.Kept.{Kept, open_level, back_to}
@@ -31,14 +32,9 @@ save_made m = cond (nat_lt m.made 65535 && nat_lt (length m.saves) 15) (if_opene
 abbrev pub can_save : InUse → Bool
 can_save m = nat_lt m.made 65535 && (nat_lt (length m.saves) 15 && nat_lt (length m.kept.levels) m.kept.limit)
 
--- which of the open saves, counted from i for the first of them, has the number
-unfoldable pub save_from : ℕ → ℕ → List Saved → Option ℕ
-save_from number i [] = None
-save_from number i (s ∷ ss) = cond (s.number == number) (Some i) (save_from number (i + 1) ss)
-
--- counted from the oldest
+-- which of the open saves, counted from the oldest, is the first that has the number
 abbrev pub save_place : ℕ → List Saved → Option ℕ
-save_place number ss = save_from number 0 ss
+save_place number ss = position (λ s. s.number == number) ss
 
 abbrev pub no_save : Saved
 no_save = record { number = 0; slot_top = 0; byte_top = 0 }

@@ -29,11 +29,6 @@ impl Saved {
         ensures value { result ≡ any_newer self objects.now }
         ensures any { AnyNewer self objects.now result }
     {
-        for object in objects {
-            if self.is_older_than(*object) {
-                return true;
-            }
-        }
-        false
+        objects.iter().any(|object| self.is_older_than(*object))
     }
 }
