@@ -1,4 +1,2 @@
-pub mod Marks
-pub mod Moved
-pub mod Tops
+pub mod Fronts
 pub mod Turns

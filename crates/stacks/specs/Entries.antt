@@ -1,10 +1,10 @@
 -- A stack of at most so many entries, as the list of them, top first.
-use Rattle.std.specs.Prelude.{ℕ, ◌-◌, cond, List, ◌∷◌, length, drop, nat_lt, slice_set}
-use Rattle.stacks.specs.declared.stack.Stack.{Stack}
-use Rattle.stacks.specs.Tops.{tops}
+use Rattle.std.specs.Prelude.{ℕ, ◌-◌, cond, List, ◌∷◌, length, drop, Ok, Err, Result, nat_lt, slice_set}
+use Rattle.stacks.specs.declared.stack.Full.{Full}
 
-abbrev pub entries : {T : Type 0} {N : ℕ} → Stack T N → List T
-entries s = tops s.len s.items
+-- refused exactly where there is no room for one more
+abbrev pub room_for_one : {T : Type 0} → ℕ → List T → Result (Unit {0}) Full
+room_for_one most xs = cond (nat_lt (length xs) most) (Ok tt) (Err (record {}))
 
 -- one more on top, if there is room
 abbrev pub entered : {T : Type 0} → ℕ → T → List T → List T

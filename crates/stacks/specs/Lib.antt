@@ -1,5 +1,3 @@
 pub mod Entries
 pub mod Printed
 pub mod Stacked
-pub mod Tops
-pub mod Views

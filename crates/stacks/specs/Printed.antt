@@ -2,10 +2,6 @@
 use Rattle.std.specs.Prelude.{ℕ, ◌+◌, cond, List, ◌++◌, length, take, drop, Ok, Err, Result, nat_le}
 use Rattle.objects.specs.declared.fault.Fault.{Fault}
 use Rattle.objects.specs.declared.fault.Fault.TheVariants.{IoError}
-use Rattle.stacks.specs.declared.output.Output.{Output}
-
-abbrev pub printed : Output → List ℕ
-printed o = take o.len o.bytes
 
 -- at most 4,096 bytes wait
 abbrev pub appended : List ℕ → List ℕ → Result (List ℕ) Fault

@@ -1,8 +1,10 @@
 -- The operand stack, top first, with the number of open stopped frames, and what each call makes of it.
-use Rattle.std.specs.Prelude.{◌≡◌, ℕ, suc, ◌+◌, ◌-◌, ◌<◌, Bool, true, false, cond, ◌&&◌, List, [], ◌∷◌, ◌++◌, length, take, drop, Some, None, Ok, Err, Option, Result, nat_le, nat_lt, slice_set}
+use Rattle.std.specs.Prelude.{◌≡◌, ℕ, ◌+◌, ◌-◌, ◌<◌, Bool, true, false, cond, ◌&&◌, List, [], ◌∷◌, ◌++◌, length, reverse, take, drop, Ok, Err, Option, Result, nat_le, nat_lt, slice_set}
+use Rattle.std.specs.List.{position}
 use Rattle.std.specs.List.Sorted.{IsPermutation}
 use Rattle.objects.specs.declared.fault.Fault.{Fault}
 use Rattle.objects.specs.declared.fault.Fault.TheVariants.{StackOverflow, RangeCheck}
+use Rattle.objects.specs.Objects.{truth}
 use Rattle.objects.specs.declared.object.Object.{Object}
 use Rattle.objects.specs.declared.object.Value.TheVariants.{Mark, Null, Integer, Boolean, Name, Operator, Array, String, Dictionary, Save, Header}
 
@@ -25,6 +27,10 @@ pushed o s = cond (nat_lt (length s.objects + s.stopped) 500) (Ok (with_objects 
 
 abbrev pub pushed_two : Object → Object → Stacked → Result Stacked Fault
 pushed_two below top s = cond (nat_le (length s.objects + s.stopped + 2) 500) (Ok (with_objects (top ∷ below ∷ s.objects) s)) (Err StackOverflow)
+
+-- all of a list, whose first goes on lowest, or none
+abbrev pub pushed_all : List Object → Stacked → Result Stacked Fault
+pushed_all os s = cond (nat_le (length s.objects + s.stopped + length os) 500) (Ok (with_objects (reverse os ++ s.objects) s)) (Err StackOverflow)
 
 abbrev pub discarded : ℕ → Stacked → Stacked
 discarded n s = with_objects (drop n s.objects) s
@@ -62,9 +68,6 @@ cleared s = with_objects [] s
 abbrev pub opened : Stacked → Stacked
 opened s = cond (nat_lt 0 (length s.objects)) (record { objects = drop 1 s.objects; stopped = s.stopped + 1 }) s
 
-abbrev pub truth : Bool → Object
-truth b = record { value = Boolean b; executable = false }
-
 -- one stopped frame less, for its boolean, which has room since operands and stopped frames are as many as before;
 -- nothing changes where none is open
 abbrev pub settled : Bool → Stacked → Stacked
@@ -73,10 +76,6 @@ settled b s = cond (nat_lt 0 s.stopped) (record { objects = truth b ∷ s.object
 abbrev pub is_mark : Object → Bool
 is_mark o = elim o.value [ Mark ↦ true | Null ↦ false | Integer i ↦ false | Boolean b ↦ false | Name n ↦ false | Operator p ↦ false | Array a ↦ false | String a ↦ false | Dictionary d ↦ false | Save n ↦ false | Header h ↦ false ]
 
--- how many lie above the topmost mark, with so many above those that are left
-unfoldable pub above_mark : ℕ → List Object → Option ℕ
-above_mark n [] = None
-above_mark n (o ∷ os) = cond (is_mark o) (Some n) (above_mark (suc n) os)
-
+-- how many lie above the topmost mark
 abbrev pub count_to_mark : Stacked → Option ℕ
-count_to_mark s = above_mark 0 s.objects
+count_to_mark s = position is_mark s.objects

@@ -9,3 +9,10 @@ pub struct Counts {
     pub(crate) stopped: usize,
     ghost within: { operands + stopped ≤ 500 },
 }
+
+impl Counts {
+    pub(crate) const NONE: Counts = Counts {
+        operands: 0,
+        stopped: 0,
+    };
+}

@@ -1,8 +1,7 @@
 // What the operand stack answers without being changed.
-ghost use Rattle.std.specs.Prelude.{◌≡◌, ◌+◌, ◌<◌, ◌≤◌, length, IfSome};
-ghost use Rattle.std.specs.List.{slice_get};
+ghost use Rattle.std.specs.Prelude.{◌≡◌, ◌+◌, ◌<◌, ◌≤◌, reverse, length, IfSome};
+ghost use Rattle.std.specs.List.{position, slice_get};
 ghost use Rattle.stacks.specs.Stacked.{room_in, is_mark, count_to_mark};
-ghost use Rattle.stacks.specs.Views.{stacked};
 
 use crate::counts::MOST;
 use crate::operands::Operands;
@@ -10,55 +9,52 @@ use objects::object::{Object, Value};
 
 impl Operands {
     pub fn depth(&self) -> usize
-        ensures value { result ≡ length (stacked self.now).objects }
+        ensures value { result ≡ length self.now.objects }
         ensures bound { result ≤ 500 }
     {
         self.counts.operands
     }
 
     pub fn stopped(&self) -> usize
-        ensures { result ≡ (stacked self.now).stopped }
+        ensures { result ≡ self.now.stopped }
     {
         self.counts.stopped
     }
 
     pub fn room(&self) -> usize
-        ensures value { result ≡ room_in (stacked self.now) }
-        ensures within { length (stacked self.now).objects + (stacked self.now).stopped ≤ 500 }
+        ensures value { result ≡ room_in self.now }
+        ensures within { length self.now.objects + self.now.stopped ≤ 500 }
     {
         MOST - (self.counts.operands + self.counts.stopped)
     }
 
     // The n-th operand from the top, which is the 0th.
     pub fn peek(&self, n: usize) -> Option<Object>
-        ensures { result ≡ slice_get (stacked self.now).objects n }
+        ensures { result ≡ slice_get self.now.objects n }
     {
-        if n >= self.counts.operands {
-            return None;
-        }
-        Some(self.objects[self.counts.operands - 1 - n])
+        let below = self.counts.operands.checked_sub(n)?;
+        self.objects[..below].last().copied()
     }
 
     // How many operands lie above the topmost mark.
     pub fn count_to_mark(&self) -> Option<usize>
-        ensures value { result ≡ count_to_mark (stacked self.now) }
+        ensures value { result ≡ count_to_mark self.now }
         ensures bound { IfSome result (λ n. n < 500) }
     {
-        let depth = self.counts.operands;
-        for n in 0..depth {
-            if is_mark(self.objects[depth - 1 - n]) {
-                return Some(n);
-            }
-        }
-        None
+        topmost_mark(&self.objects[..self.counts.operands])
     }
+}
+
+// How many objects lie behind the last mark.
+fn topmost_mark(objects: &[Object]) -> Option<usize>
+    ensures value { result ≡ position is_mark (reverse objects.now) }
+    ensures within { IfSome result (λ n. n < length objects.now) }
+{
+    objects.iter().rev().position(|object| is_mark(*object))
 }
 
 fn is_mark(object: Object) -> bool
     ensures { result ≡ is_mark object }
 {
-    match object.value {
-        Value::Mark => true,
-        _ => false,
-    }
+    matches!(object.value, Value::Mark)
 }
