@@ -11,9 +11,9 @@ use Rattle.scanner.specs.Laws.{but_left, StandsAlone}
 use Rattle.scanner.specs.Stocks.{Procedures, Outcome, going, complete, last, failed}
 use Rattle.scanner.specs.Tokens.{Scanned, met, names_met, gives, none, refuses, by_outcome, by_piece, token_on, by_pieces, no_procedures}
 use Rattle.scanner.proofs.Grammar.{follows_grammar}
-use Rattle.scanner.proofs.Shorter.{body_takes, escaped_takes, between_takes, comment_takes}
+use Rattle.scanner.proofs.Shorter.{between_takes, comment_takes}
 use Rattle.scanner.proofs.Steps.{at_between, at_comment}
-use Rattle.scanner.proofs.Taking.{in_lexeme, by_piece_takes, from_front}
+use Rattle.scanner.proofs.Taking.{taken_lt, in_body, in_escaped, in_lexeme, by_piece_takes, from_front}
 use Rattle.scanner.proofs.Turns.{enough}
 
 module _ (b : ℕ) (more : List ℕ) (stop : ends_run b ≡ true) (b' : ℕ) (more' : List ℕ) (stop' : ends_run b' ≡ true) where
@@ -25,7 +25,7 @@ module _ (b : ℕ) (more : List ℕ) (stop : ends_run b ≡ true) (b' : ℕ) (mo
 
   -- two readings that differ in what is left alone
   abbrev Swap : List ℕ → Reading → Reading → Type 0
-  Swap f x x' = x.left ≡ f ++ rest → x' ≡ record { said = x.said; strings = x.strings; left = f ++ rest' }
+  Swap f x x' = x.left ≡ f ++ rest → x' ≡ record x { left = f ++ rest' }
 
   swap_cond : (f : List ℕ) (t : Bool) (x y x' y' : Reading) → Swap f x x' → Swap f y y' → Swap f (cond t x y) (cond t x' y')
   swap_cond f true x y x' y' h k = h
@@ -41,7 +41,7 @@ module _ (b : ℕ) (more : List ℕ) (stop : ends_run b ≡ true) (b' : ℕ) (mo
     unfolding body escaped
 
     swap_body : (cs out : List ℕ) (n : ℕ) (r : Bool) (f : List ℕ) → Swap f (body (cs ++ rest) out n r) (body (cs ++ rest') out n r)
-    swap_body [] out n r f = too_short f _ _ (omega (arith, body_takes b more out n r))
+    swap_body [] out n r f = too_short f _ _ (taken_lt b more _ (in_body (b ∷ more) out n r).0)
     swap_body (c ∷ cs) out n r f =
         swap_cond f (r && eqb c 10) _ _ _ _ (swap_body cs out n false f)
         (swap_cond f (eqb c 41) _ _ _ _ (swap_cond f (eqb n 0) _ _ _ _ (swap_here f cs (Ok string) out) (swap_cond f (ltb (length out) 1024) _ _ _ _ (swap_body cs (out ++ c ∷ []) (n - 1) false f) (swap_here f cs (Err LimitCheck) out)))
@@ -50,7 +50,7 @@ module _ (b : ℕ) (more : List ℕ) (stop : ends_run b ≡ true) (b' : ℕ) (mo
         (swap_cond f (eqb c 13) _ _ _ _ (swap_cond f (ltb (length out) 1024) _ _ _ _ (swap_body cs (out ++ 10 ∷ []) n true f) (swap_here f cs (Err LimitCheck) out)) (swap_cond f (ltb (length out) 1024) _ _ _ _ (swap_body cs (out ++ c ∷ []) n false f) (swap_here f cs (Err LimitCheck) out))))))
 
     swap_escaped : (cs out : List ℕ) (n : ℕ) (f : List ℕ) → Swap f (escaped (cs ++ rest) out n) (escaped (cs ++ rest') out n)
-    swap_escaped [] out n f = too_short f _ _ (omega (arith, escaped_takes b more out n))
+    swap_escaped [] out n f = too_short f _ _ (taken_lt b more _ (in_escaped (b ∷ more) out n).0)
     swap_escaped (c ∷ cs) out n f =
         swap_cond f (eqb c 10) _ _ _ _ (swap_body cs out n false f)
         (swap_cond f (eqb c 13) _ _ _ _ (swap_body cs out n true f) (swap_cond f (ltb (length out) 1024) _ _ _ _ (swap_body cs (out ++ escape c ∷ []) n false f) (swap_here f cs (Err LimitCheck) out)))
@@ -80,7 +80,7 @@ module _ (b : ℕ) (more : List ℕ) (stop : ends_run b ≡ true) (b' : ℕ) (mo
       (swap_cond f (eqb c 41 || (eqb c 60 || eqb c 62)) _ _ _ _ (swap_here f cs (Err SyntaxError) out) (swap_token_run plain out (c ∷ cs) f))))))
 
   swap_along : (f : List ℕ) (x y x' y' : Reading) → x ≡ y → x' ≡ y' → Swap f y y' → Swap f x x'
-  swap_along f x y x' y' h k s e = k ∙ s (ap (λ (r : Reading). r.left) (sym h) ∙ e) ∙ ap (λ (r : Reading). record { said = r.said; strings = r.strings; left = f ++ rest' }) (sym h)
+  swap_along f x y x' y' h k s e = k ∙ s (ap (λ (r : Reading). r.left) (sym h) ∙ e) ∙ ap (λ (r : Reading). record r { left = f ++ rest' }) (sym h)
 
   mutual
     swap_between : (cs out f : List ℕ) → Swap f (begun out (skipped (cs ++ rest))) (begun out (skipped (cs ++ rest')))
@@ -119,7 +119,7 @@ module _ (b : ℕ) (more : List ℕ) (stop : ends_run b ≡ true) (b' : ℕ) (mo
   swaps_on zero names p out front e = ap (λ l. refuses SyntaxError names (l ++ rest')) (no_front front e)
   swaps_on (suc turns) names p out front e =
       let r = lexeme out (front ++ rest) in
-      let t = in_lexeme out (front ++ rest) in
+      let t = (in_lexeme out (front ++ rest)).0 in
       let u = by_piece_takes r.strings r.left r.said (length out) names p (token_on turns) (λ after q. from_front turns after q r.strings r.left) in
       let long : length rest ≤ length r.left = omega (arith, ap length (sym e ∙ u.1), length-drop u.0 r.left) in
       let n = t.0 in

@@ -1,18 +1,18 @@
 -- Reading piece by piece follows the grammar.
-use Rattle.std.proofs.Common.{◌≡◌, ℕ, zero, suc, ◌+◌, ◌-◌, ◌<◌, ◌≤◌, Bool, true, false, cond, ltb, List, [], ◌∷◌, ◌++◌, length, Ok, Err, Result, refl, ap, ◌∙◌, arith}
+use Rattle.std.proofs.Common.{◌≡◌, ℕ, zero, suc, ◌+◌, ◌-◌, ◌<◌, ◌≤◌, Bool, true, false, cond, ltb, List, [], ◌∷◌, ◌++◌, length, Ok, Err, Result, refl, sym, ap, ◌∙◌, subst, ⊎_elim, arith}
 use Rattle.names.specs.Names.{join_answer, names_joined}
 use Rattle.objects.specs.declared.fault.Fault.{Fault}
 use Rattle.objects.specs.declared.fault.Fault.TheVariants.{LimitCheck}
 use Rattle.objects.specs.declared.object.Value.TheVariants.{Name}
-use Rattle.scanner.specs.Grammar.{Kept, Spelled, whole, broken, and_then, read_to, numbered, one_more, in_procedure, procedure_rest, outermost, by_grammar, token}
+use Rattle.scanner.specs.Grammar.{Kept, Spelled, whole, broken, and_then, read_to, numbered, one_more, in_procedure, procedure_rest, outermost, by_grammar, at_first, token}
 use Rattle.scanner.specs.Lexemes.{Piece, ended, opening, closing, integer, name, literal, string, lexeme}
 use Rattle.scanner.specs.Stocks.{Procedures, going, failed, joined_to}
 use Rattle.scanner.specs.Tokens.{Scanned, refuses, named, by_outcome, by_piece, by_pieces, reading_on, no_procedures}
 use Rattle.scanner.specs.declared.element.Element.{Element}
 use Rattle.scanner.specs.declared.element.Element.TheVariants.{Object, String}
-use Rattle.std.proofs.lemmas.List.{length-drop}
-use Rattle.scanner.proofs.Taking.{in_lexeme}
-use Rattle.scanner.proofs.Turns.{Less, less, turn_on}
+use Rattle.scanner.proofs.Taking.{taken_le, in_lexeme}
+use Rattle.scanner.proofs.Shorter.{shorter}
+use Rattle.scanner.proofs.Turns.{turn_on}
 
 -- the procedures around an element that is whole go on
 abbrev after : List (List Element) → Spelled → Scanned
@@ -59,7 +59,7 @@ module _ (n depth before : ℕ) (more : List Element → Kept → Spelled) (inne
   within_piece mine k (Ok string) h = within_one n more ih mine _ k h
 
 left_le : (out bs : List ℕ) → length (lexeme out bs).left ≤ length bs
-left_le out bs = let t = in_lexeme out bs in omega (arith, ap length t.1, length-drop t.0 bs)
+left_le out bs = taken_le bs _ (in_lexeme out bs).0
 
 within_procedure : (turns depth : ℕ) (mine : List Element) (k : Kept) → Within (length k.left) (procedure_rest turns depth mine k)
 unfolding procedure_rest
@@ -76,8 +76,8 @@ module _ (turns : ℕ) (ih : Goes turns) (outer : List (List Element)) (mine : L
   one_goes e k h = go (ltb k.count 512)
     where
       go : (b : Bool) → by_outcome (cond b (going (record { shut = k.shut; pending = (mine ++ e ∷ []) ∷ outer; count = k.count + 1 })) (failed LimitCheck)) k.names k.strings k.left (λ p. reading_on k.names p k.strings k.left)
-          ≡ after outer (cond b (procedure_rest turns (suc (length outer)) (mine ++ e ∷ []) (record { names = k.names; shut = k.shut; count = k.count + 1; strings = k.strings; left = k.left })) (broken LimitCheck k.names k.left))
-      go true = ih outer (mine ++ e ∷ []) (record { names = k.names; shut = k.shut; count = k.count + 1; strings = k.strings; left = k.left }) h
+          ≡ after outer (cond b (procedure_rest turns (suc (length outer)) (mine ++ e ∷ []) (record k { count = k.count + 1 })) (broken LimitCheck k.names k.left))
+      go true = ih outer (mine ++ e ∷ []) (record k { count = k.count + 1 }) h
       go false = refl
 
   then_goes : (n : ℕ) (s : Spelled) → Within n s → n < turns → after (mine ∷ outer) s ≡ after outer (and_then s (one_more (procedure_rest turns (suc (length outer))) mine))
@@ -86,10 +86,10 @@ module _ (turns : ℕ) (ih : Goes turns) (outer : List (List Element)) (mine : L
 
   named_goes : (executable : Bool) (r : Result ℕ Fault) (names : List (List ℕ)) (k : Kept) → length k.left < turns
       → by_outcome (named executable r (within mine outer k)) names k.strings k.left (λ q. reading_on names q k.strings k.left) ≡ after outer (and_then (numbered executable r names k) (one_more (procedure_rest turns (suc (length outer))) mine))
-  named_goes executable (Ok m) names k h = one_goes (Object (record { value = Name m; executable = executable })) (record { names = names; shut = k.shut; count = k.count; strings = k.strings; left = k.left }) h
+  named_goes executable (Ok m) names k h = one_goes (Object (record { value = Name m; executable = executable })) (record k { names = names }) h
   named_goes executable (Err f) names k h = refl
 
-  piece_goes : (before : ℕ) (k : Kept) (s : Result Piece Fault) → Less s (length k.left) turns
+  piece_goes : (before : ℕ) (k : Kept) (s : Result Piece Fault) → length k.left < turns
       → by_piece s before k.names (within mine outer k) k.strings k.left reading_on ≡ after outer (in_procedure (procedure_rest turns (suc (length outer))) (procedure_rest turns (suc (suc (length outer))) []) (suc (length outer)) mine before k s)
   piece_goes before k (Err f) h = refl
   piece_goes before k (Ok ended) h = refl
@@ -110,8 +110,9 @@ unfolding procedure_rest
 inside zero outer mine k h = absurd (omega arith)
 inside (suc turns) outer mine k h =
     let r = lexeme k.strings k.left in
+    let P : Result Piece Fault → Type 0 = λ s. by_piece s (length k.strings) k.names (within mine outer k) r.strings r.left reading_on ≡ after outer (in_procedure (procedure_rest turns (suc (length outer))) (procedure_rest turns (suc (suc (length outer))) []) (suc (length outer)) mine (length k.strings) (read_to k r) s) in
     turn_on k.names (within mine outer k) k.strings k.left
-    ∙ piece_goes turns (inside turns) outer mine (length k.strings) (read_to k r) r.said (less k.strings k.left turns (omega arith))
+    ∙ ⊎_elim (λ e. subst P (sym e) refl) (λ l. piece_goes turns (inside turns) outer mine (length k.strings) (read_to k r) r.said (omega arith)) (shorter k.strings k.left)
 
 -- outside of procedures
 after_none : (s : Spelled) → after [] s ≡ outermost s
@@ -126,7 +127,7 @@ module _ (names : List (List ℕ)) (out bs : List ℕ) where
   name_first executable (Ok m) names' = refl
   name_first executable (Err f) names' = refl
 
-  first_goes : (turns : ℕ) (s : Result Piece Fault) → Less s (length bs) turns → by_piece s 0 names no_procedures out bs reading_on ≡ by_grammar turns (first_kept names) s
+  first_goes : (turns : ℕ) (s : Result Piece Fault) → length bs < turns → by_piece s 0 names no_procedures out bs reading_on ≡ by_grammar turns (first_kept names) s
   first_goes turns (Err f) h = refl
   first_goes turns (Ok ended) h = refl
   first_goes turns (Ok closing) h = refl
@@ -140,4 +141,5 @@ module _ (names : List (List ℕ)) (out bs : List ℕ) where
 pub follows_grammar : (names : List (List ℕ)) (bs : List ℕ) → by_pieces names bs ≡ token names bs
 follows_grammar names bs =
     let r = lexeme [] bs in
-    turn_on names no_procedures [] bs ∙ first_goes names r.strings r.left (length bs) r.said (less [] bs (length bs) (omega arith))
+    let P : Result Piece Fault → Type 0 = λ s. by_piece s 0 names no_procedures r.strings r.left reading_on ≡ by_grammar (length bs) (read_to (at_first names bs) r) s in
+    turn_on names no_procedures [] bs ∙ ⊎_elim (λ e. subst P (sym e) refl) (first_goes names r.strings r.left (length bs) r.said) (shorter [] bs)

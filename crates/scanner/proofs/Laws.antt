@@ -51,13 +51,9 @@ joins_none texts names = (0, refl)
 
 -- the names that a piece brings
 abbrev brings : Piece → List (List ℕ) → List (List ℕ)
-brings ended rest = rest
-brings opening rest = rest
-brings closing rest = rest
-brings (integer z) rest = rest
 brings (name text) rest = text ∷ rest
 brings (literal text) rest = text ∷ rest
-brings string rest = rest
+brings x rest = rest
 
 joins_on : (x : Piece) (rest names after : List (List ℕ)) → Joins rest (names_met x names) after → Joins (brings x rest) names after
 unfolding names_after
@@ -80,15 +76,18 @@ module _ (out bs : List ℕ) (texts : List (List ℕ)) where
   joins_at_end names [] more = joins_none [] names
   joins_at_end names (es ∷ l) more = joins_none [] names
 
+  joins_by : (x : Piece) (before : ℕ) (names : List (List ℕ)) (p : Procedures) (more : List (List ℕ) → Procedures → List ℕ → List ℕ → Scanned) → ((after : List (List ℕ)) (q : Procedures) → Joins texts after (more after q out bs).names) → Joins (brings x texts) names (by_piece (Ok x) before names p out bs more).names
+  joins_by x before names p more h = joins_on x texts names _ (joins_by_outcome (names_met x names) (met x before (length out) names p) (λ q. more (names_met x names) q out bs) (h (names_met x names)))
+
   joins_by_piece : (r : Result Piece Fault) (before : ℕ) (names : List (List ℕ)) (p : Procedures) (more : List (List ℕ) → Procedures → List ℕ → List ℕ → Scanned) → ((after : List (List ℕ)) (q : Procedures) → Joins texts after (more after q out bs).names) → Joins (with_name r texts) names (by_piece r before names p out bs more).names
   joins_by_piece (Err f) before names p more h = joins_none [] names
   joins_by_piece (Ok ended) before names p more h = joins_at_end names p.pending (λ q. more names q out bs)
-  joins_by_piece (Ok opening) before names p more h = joins_on opening texts names _ (joins_by_outcome (names_met opening names) (met opening before (length out) names p) (λ q. more (names_met opening names) q out bs) (h (names_met opening names)))
-  joins_by_piece (Ok closing) before names p more h = joins_on closing texts names _ (joins_by_outcome (names_met closing names) (met closing before (length out) names p) (λ q. more (names_met closing names) q out bs) (h (names_met closing names)))
-  joins_by_piece (Ok (integer z)) before names p more h = joins_on (integer z) texts names _ (joins_by_outcome (names_met (integer z) names) (met (integer z) before (length out) names p) (λ q. more (names_met (integer z) names) q out bs) (h (names_met (integer z) names)))
-  joins_by_piece (Ok (name text)) before names p more h = joins_on (name text) texts names _ (joins_by_outcome (names_met (name text) names) (met (name text) before (length out) names p) (λ q. more (names_met (name text) names) q out bs) (h (names_met (name text) names)))
-  joins_by_piece (Ok (literal text)) before names p more h = joins_on (literal text) texts names _ (joins_by_outcome (names_met (literal text) names) (met (literal text) before (length out) names p) (λ q. more (names_met (literal text) names) q out bs) (h (names_met (literal text) names)))
-  joins_by_piece (Ok string) before names p more h = joins_on string texts names _ (joins_by_outcome (names_met string names) (met string before (length out) names p) (λ q. more (names_met string names) q out bs) (h (names_met string names)))
+  joins_by_piece (Ok opening) before names p more h = joins_by opening before names p more h
+  joins_by_piece (Ok closing) before names p more h = joins_by closing before names p more h
+  joins_by_piece (Ok (integer z)) before names p more h = joins_by (integer z) before names p more h
+  joins_by_piece (Ok (name text)) before names p more h = joins_by (name text) before names p more h
+  joins_by_piece (Ok (literal text)) before names p more h = joins_by (literal text) before names p more h
+  joins_by_piece (Ok string) before names p more h = joins_by string before names p more h
 
 names_joined_on : (turns : ℕ) (names : List (List ℕ)) (p : Procedures) (out bs : List ℕ) → Joins (names_on turns out bs) names (token_on turns names p out bs).names
 unfolding token_on names_on

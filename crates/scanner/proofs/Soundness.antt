@@ -1,5 +1,5 @@
 -- A token's places lie inside what it takes.
-use Rattle.std.proofs.Common.{◌≡◌, ℕ, zero, suc, ◌+◌, ◌-◌, ◌≤◌, Bool, true, false, cond, ◌&&◌, ◌||◌, eqb, ltb, List, [], ◌∷◌, ◌++◌, length, Ok, Err, Result, refl, arith}
+use Rattle.std.proofs.Common.{◌≡◌, ℕ, zero, suc, ◌+◌, ◌≤◌, Bool, true, false, ltb, List, [], ◌∷◌, ◌++◌, length, Ok, Err, Result, refl, arith}
 use Rattle.std.specs.List.{AllByRecursion}
 use Rattle.std.proofs.ByRecursion.{All-append, All-push, All-weaker}
 use Rattle.std.proofs.lemmas.List.{length_push, length-append}
@@ -7,12 +7,13 @@ use Rattle.std.proofs.lemmas.Bool.{cond_both, ltb-true}
 use Rattle.names.specs.Names.{join_answer}
 use Rattle.objects.specs.declared.fault.Fault.{Fault}
 use Rattle.objects.specs.declared.object.Value.TheVariants.{Name}
-use Rattle.scanner.specs.Lexemes.{Piece, ended, opening, closing, integer, name, literal, string, Reading, room, escape, lexeme, skipped, begun, body, escaped}
+use Rattle.scanner.specs.Lexemes.{Piece, ended, opening, closing, integer, name, literal, string, lexeme}
 use Rattle.scanner.specs.Sound.{Inside, Sound}
 use Rattle.scanner.specs.Stocks.{Procedures, Outcome, going, complete, last, failed, opened, joined_to, closed_over, finished_in}
 use Rattle.scanner.specs.Tokens.{Scanned, named, met, names_met, by_outcome, by_piece, token_on, by_pieces, no_procedures}
 use Rattle.scanner.specs.declared.element.Element.{Element}
 use Rattle.scanner.specs.declared.element.Element.TheVariants.{Object, String, Procedure}
+use Rattle.scanner.proofs.Taking.{in_lexeme}
 
 inside_more : (a a' b b' : ℕ) → a ≤ a' → b ≤ b' → (e : Element) → Inside a b e → Inside a' b' e
 inside_more a a' b b' h k (Object o) i = tt
@@ -101,50 +102,6 @@ met_well (name text) before after names p h w = named_well after true (join_answ
 met_well (literal text) before after names p h w = named_well after false (join_answer text names) p (well_more p before after h w)
 met_well string before after names p h w = joined_well after _ p.shut p.count p.pending (well_more p before after h w) (omega arith)
 
--- string bytes are added to those before, up to 1,024
-abbrev Keeps : ℕ → Reading → Type 0
-Keeps n r = (n ≤ length r.strings) × (length r.strings ≤ 1024)
-
-either : (n : ℕ) (t : Bool) (x y : Reading) → Keeps n x → Keeps n y → Keeps n (cond t x y)
-either n true x y h k = h
-either n false x y h k = k
-
-keeps_more : (out : List ℕ) (b : ℕ) (r : Reading) → Keeps (length (out ++ b ∷ [])) r → Keeps (length out) r
-keeps_more out b r h = (omega (arith, h.0, length_push out b), h.1)
-
-room_keeps : (out : List ℕ) (b : ℕ) (more : Reading) (bs : List ℕ) → length out ≤ 1024 → (length (out ++ b ∷ []) ≤ 1024 → Keeps (length (out ++ b ∷ [])) more) → Keeps (length out) (room out more bs)
-room_keeps out b more bs h f =
-    cond_both (ltb (length out) 1024) _ _ (Keeps (length out)) (λ t. keeps_more out b more (f (omega (arith, length_push out b, ltb-true (length out) 1024 t)))) (λ _. (omega arith, h))
-
-mutual
-  unfolding body escaped
-
-  body_keeps : (bs out : List ℕ) (n : ℕ) (r : Bool) → length out ≤ 1024 → Keeps (length out) (body bs out n r)
-  body_keeps [] out n r h = (omega arith, h)
-  body_keeps (b ∷ bs) out n r h =
-      either _ (r && eqb b 10) _ _ (body_keeps bs out n false h)
-      (either _ (eqb b 41) _ _ (either _ (eqb n 0) _ _ (omega arith, h) (room_keeps out b _ bs h (body_keeps bs (out ++ b ∷ []) (n - 1) false)))
-      (either _ (eqb b 40) _ _ (room_keeps out b _ bs h (body_keeps bs (out ++ b ∷ []) (n + 1) false))
-      (either _ (eqb b 92) _ _ (escaped_keeps bs out n h)
-      (either _ (eqb b 13) _ _ (room_keeps out 10 _ bs h (body_keeps bs (out ++ 10 ∷ []) n true)) (room_keeps out b _ bs h (body_keeps bs (out ++ b ∷ []) n false))))))
-
-  escaped_keeps : (bs out : List ℕ) (n : ℕ) → length out ≤ 1024 → Keeps (length out) (escaped bs out n)
-  escaped_keeps [] out n h = (omega arith, h)
-  escaped_keeps (b ∷ bs) out n h =
-      either _ (eqb b 10) _ _ (body_keeps bs out n false h) (either _ (eqb b 13) _ _ (body_keeps bs out n true h) (room_keeps out (escape b) _ bs h (body_keeps bs (out ++ escape b ∷ []) n false)))
-
-begun_keeps : (out bs : List ℕ) → length out ≤ 1024 → Keeps (length out) (begun out bs)
-unfolding begun
-begun_keeps out [] h = (omega arith, h)
-begun_keeps out (b ∷ bs) h =
-    let here : Keeps (length out) (record { said = Ok ended; strings = out; left = bs }) = (omega arith, h) in
-    either _ (eqb b 40) _ _ (body_keeps bs out 0 false h)
-    (either _ (eqb b 47) _ _ here
-    (either _ (eqb b 91 || eqb b 93) _ _ here
-    (either _ (eqb b 123) _ _ here
-    (either _ (eqb b 125) _ _ here
-    (either _ (eqb b 41 || (eqb b 60 || eqb b 62)) _ _ here here)))))
-
 -- a token that is complete is whole
 module _ (names : List (List ℕ)) (out bs : List ℕ) (few : length out ≤ 1024) where
   by_outcome_sound : (o : Outcome) (more : Procedures → Scanned) → Wells (length out) o → ((q : Procedures) → Well q (length out) → Sound (more q)) → Sound (by_outcome o names out bs more)
@@ -168,7 +125,7 @@ sound_on : (turns : ℕ) (names : List (List ℕ)) (p : Procedures) (out bs : Li
 unfolding token_on
 sound_on zero names p out bs few w = tt
 sound_on (suc turns) names p out bs few w =
-    let k = begun_keeps out (skipped bs) few in
+    let k = (in_lexeme out bs).1 few in
     let r = lexeme out bs in
     by_piece_sound r.strings r.left k.1 r.said (length out) names p k.0 w (token_on turns) (λ after q v. sound_on turns after q r.strings r.left k.1 v)
 

@@ -1,15 +1,12 @@
 -- What the definition of a piece does at one byte.
 use Rattle.std.proofs.Common.{◌≡◌, ℕ, ◌+◌, ◌-◌, Bool, true, false, cond, ◌&&◌, ◌||◌, eqb, ◌⊎◌, List, [], ◌∷◌, ◌++◌, Some, Ok, Err, Option, Result, sym, refl, ap, ◌∙◌, inl, inr, arith}
-use Rattle.std.proofs.lemmas.List.{append-nil, append_assoc, length-append}
+use Rattle.std.proofs.lemmas.List.{append-nil, append_assoc, length-append, length-take, length-set, take_more_set}
 use Rattle.std.proofs.lemmas.Bool.{cond-true, cond-false}
 use Rattle.std.proofs.lemmas.Bool.Decides.{nat_tests}
 use Rattle.objects.specs.declared.fault.Fault.{Fault}
 use Rattle.objects.specs.declared.fault.Fault.TheVariants.{SyntaxError}
 use Rattle.scanner.specs.Bytes.{white, ends_comment, ends_run}
-use Rattle.scanner.specs.Lexemes.{Piece, says, room, escape, skipped, past_comment, begun, body, escaped, plain, slashed, ended, string, name, opening, closing}
-use Rattle.scanner.specs.Machine.{reading}
-use Rattle.scanner.specs.declared.state.State.{State}
-use Rattle.scanner.specs.declared.state.State.TheVariants.{Between, Comment, Plain, Slashed, Text, Escaped}
+use Rattle.scanner.specs.Lexemes.{Piece, Reading, says, room, escape, skipped, past_comment, begun, body, escaped, plain, slashed, string, name, opening, closing}
 use Rattle.scanner.specs.Runs.{run_of, past_run, within_limit, gather, gathered}
 
 begun_cond : (out : List ℕ) (t : Bool) (xs ys : List ℕ) → begun out (cond t xs ys) ≡ cond t (begun out xs) (begun out ys)
@@ -24,23 +21,25 @@ pub at_comment : (out : List ℕ) (b : ℕ) (bs : List ℕ) → begun out (past_
 unfolding past_comment
 at_comment out b bs = begun_cond out (ends_comment b) (skipped bs) (past_comment bs)
 
--- a run, byte by byte
-module _ (out : List ℕ) (b : ℕ) (bs : List ℕ) (o : Option (List ℕ)) where
-  pub at_plain : says (plain (gathered o (run_of (b ∷ bs)))) out (past_run (b ∷ bs)) ≡ cond (ends_run b) (says (plain o) out (b ∷ bs)) (says (plain (gathered (gather o b) (run_of bs))) out (past_run bs))
+-- a run of either kind, byte by byte
+module _ (k : Option (List ℕ) → Result Piece Fault) (out : List ℕ) (b : ℕ) (bs : List ℕ) (o : Option (List ℕ)) where
+  abbrev From : Option (List ℕ) → List ℕ → Reading
+  From o' bs' = says (k (gathered o' (run_of bs'))) out (past_run bs')
+
+  pub at_run : From o (b ∷ bs) ≡ cond (ends_run b) (says (k o) out (b ∷ bs)) (From (gather o b) bs)
   unfolding run_of past_run gathered
-  at_plain = go (ends_run b)
+  at_run = go (ends_run b)
     where
-      go : (t : Bool) → says (plain (gathered o (cond t [] (b ∷ run_of bs)))) out (cond t (b ∷ bs) (past_run bs)) ≡ cond t (says (plain o) out (b ∷ bs)) (says (plain (gathered (gather o b) (run_of bs))) out (past_run bs))
+      go : (t : Bool) → says (k (gathered o (cond t [] (b ∷ run_of bs)))) out (cond t (b ∷ bs) (past_run bs)) ≡ cond t (says (k o) out (b ∷ bs)) (From (gather o b) bs)
       go true = refl
       go false = refl
 
-  pub at_slashed : says (slashed (gathered o (run_of (b ∷ bs)))) out (past_run (b ∷ bs)) ≡ cond (ends_run b) (says (slashed o) out (b ∷ bs)) (says (slashed (gathered (gather o b) (run_of bs))) out (past_run bs))
-  unfolding run_of past_run gathered
-  at_slashed = go (ends_run b)
-    where
-      go : (t : Bool) → says (slashed (gathered o (cond t [] (b ∷ run_of bs)))) out (cond t (b ∷ bs) (past_run bs)) ≡ cond t (says (slashed o) out (b ∷ bs)) (says (slashed (gathered (gather o b) (run_of bs))) out (past_run bs))
-      go true = refl
-      go false = refl
+  -- it ends before the byte, or goes on over it
+  pub run_ends : (r : Result Piece Fault) → ends_run b ≡ true → r ≡ k o → says r out (b ∷ bs) ≡ From o (b ∷ bs)
+  run_ends r e is = ap (λ x. says x out (b ∷ bs)) is ∙ sym (cond-true _ _ _ e) ∙ sym at_run
+
+  pub run_goes : ends_run b ≡ false → From (gather o b) bs ≡ From o (b ∷ bs)
+  run_goes e = sym (cond-false _ _ _ e) ∙ sym at_run
 
 -- a run that is gathered byte by byte is the whole run, or none where it is too long
 gather_limit : (xs : List ℕ) (b : ℕ) → gather (within_limit xs) b ≡ within_limit (xs ++ b ∷ [])
@@ -67,7 +66,7 @@ pub begun_plain : (out : List ℕ) (b : ℕ) (bs : List ℕ) → ends_run b ≡ 
 begun_plain out b bs e =
     let r = regular b e in
     at_between out b bs ∙ cond-false _ _ _ r.0 ∙ cond-false _ _ _ r.1 ∙ at_begun out b bs ∙ cond-false _ _ _ r.2 ∙ cond-false _ _ _ r.3 ∙ cond-false _ _ _ r.4 ∙ cond-false _ _ _ r.5 ∙ cond-false _ _ _ r.6 ∙ cond-false _ _ _ r.7
-    ∙ ap (λ o. says (plain o) out (past_run (b ∷ bs))) (sym (gathered_limit [] (run_of (b ∷ bs)))) ∙ at_plain out b bs (Some []) ∙ cond-false _ _ _ e
+    ∙ ap (λ o. says (plain o) out (past_run (b ∷ bs))) (sym (gathered_limit [] (run_of (b ∷ bs)))) ∙ sym (run_goes plain out b bs (Some []) e)
 
 pub at_body : (b : ℕ) (bs out : List ℕ) (n : ℕ) (returned : Bool) → body (b ∷ bs) out n returned ≡ cond (returned && eqb b 10) (body bs out n false) (cond (eqb b 41) (cond (eqb n 0) (says (Ok string) out bs) (room out (body bs (out ++ b ∷ []) (n - 1) false) bs)) (cond (eqb b 40) (room out (body bs (out ++ b ∷ []) (n + 1) false) bs) (cond (eqb b 92) (escaped bs out n) (cond (eqb b 13) (room out (body bs (out ++ 10 ∷ []) n true) bs) (room out (body bs (out ++ b ∷ []) n false) bs)))))
 unfolding body
@@ -77,43 +76,8 @@ pub at_escaped : (b : ℕ) (bs out : List ℕ) (n : ℕ) → escaped (b ∷ bs) 
 unfolding escaped
 at_escaped b bs out n = refl
 
--- a run ends before the byte, or goes on over it
-module _ (s : State) (o : Option (List ℕ)) (out : List ℕ) (b : ℕ) (bs : List ℕ) where
-  pub plain_ends : (r : Result Piece Fault) → s ≡ Plain → ends_run b ≡ true → r ≡ plain o → says r out (b ∷ bs) ≡ reading s o out (b ∷ bs)
-  plain_ends r here e is = ap (λ x. says x out (b ∷ bs)) is ∙ sym (cond-true _ _ _ e) ∙ sym (at_plain out b bs o) ∙ ap (λ x. reading x o out (b ∷ bs)) (sym here)
+-- what a byte does, in every state but in a run
+pub ruleset at_a_byte = (nat_tests, length-take, at_between, at_comment, at_begun, at_body, at_escaped, begun_slash)
 
-  pub slashed_ends : (r : Result Piece Fault) → s ≡ Slashed → ends_run b ≡ true → r ≡ slashed o → says r out (b ∷ bs) ≡ reading s o out (b ∷ bs)
-  slashed_ends r here e is = ap (λ x. says x out (b ∷ bs)) is ∙ sym (cond-true _ _ _ e) ∙ sym (at_slashed out b bs o) ∙ ap (λ x. reading x o out (b ∷ bs)) (sym here)
-
-  pub plain_goes : (o' : Option (List ℕ)) → s ≡ Plain → ends_run b ≡ false → o' ≡ gather o b → reading s o' out bs ≡ reading s o out (b ∷ bs)
-  plain_goes o' here e is = ap (λ x. reading x o' out bs) here ∙ ap (λ x. reading Plain x out bs) is ∙ sym (cond-false _ _ _ e) ∙ sym (at_plain out b bs o) ∙ ap (λ x. reading x o out (b ∷ bs)) (sym here)
-
-  pub slashed_goes : (o' : Option (List ℕ)) → s ≡ Slashed → ends_run b ≡ false → o' ≡ gather o b → reading s o' out bs ≡ reading s o out (b ∷ bs)
-  slashed_goes o' here e is = ap (λ x. reading x o' out bs) here ∙ ap (λ x. reading Slashed x out bs) is ∙ sym (cond-false _ _ _ e) ∙ sym (at_slashed out b bs o) ∙ ap (λ x. reading x o out (b ∷ bs)) (sym here)
-
-  -- a run begins
-  pub plain_begins : (o' : Option (List ℕ)) → s ≡ Between → ends_run b ≡ false → o' ≡ Some (b ∷ []) → reading Plain o' out bs ≡ reading s o out (b ∷ bs)
-  plain_begins o' here e is = ap (λ x. reading Plain x out bs) is ∙ sym (begun_plain out b bs e) ∙ ap (λ x. reading x o out (b ∷ bs)) (sym here)
-
--- the end of the text, in each state
-module _ (s : State) (o : Option (List ℕ)) (out : List ℕ) where
-  pub none_left : (s ≡ Between) ⊎ (s ≡ Comment) → says (Ok ended) out [] ≡ reading s o out []
-  unfolding begun skipped past_comment
-  none_left (inl e) = ap (λ x. reading x o out []) (sym e)
-  none_left (inr e) = ap (λ x. reading x o out []) (sym e)
-
-  pub plain_last : (r : Result Piece Fault) → s ≡ Plain → r ≡ plain o → says r out [] ≡ reading s o out []
-  unfolding run_of past_run gathered
-  plain_last r here is = ap (λ x. says x out []) is ∙ ap (λ x. reading x o out []) (sym here)
-
-  pub slashed_last : (r : Result Piece Fault) → s ≡ Slashed → r ≡ slashed o → says r out [] ≡ reading s o out []
-  unfolding run_of past_run gathered
-  slashed_last r here is = ap (λ x. says x out []) is ∙ ap (λ x. reading x o out []) (sym here)
-
-  pub text_last : (n : ℕ) (returned : Bool) → s ≡ Text n returned → says (Err SyntaxError) out [] ≡ reading s o out []
-  unfolding body
-  text_last n returned e = ap (λ x. reading x o out []) (sym e)
-
-  pub escaped_last : (n : ℕ) → s ≡ Escaped n → says (Err SyntaxError) out [] ≡ reading s o out []
-  unfolding escaped
-  escaped_last n e = ap (λ x. reading x o out []) (sym e)
+-- one more byte is kept
+pub ruleset one_more = (nat_tests, take_more_set, length-take, length-set)

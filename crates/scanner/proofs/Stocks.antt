@@ -1,19 +1,11 @@
 -- The elements of open procedures, one behind the other.
-use Rattle.std.proofs.Common.{◌≡◌, ℕ, suc, ◌+◌, ◌-◌, ◌<◌, ◌≤◌, List, [], ◌∷◌, ◌++◌, reverse, length, get_or, take, drop, set, sym, refl, ap, ◌∙◌, subst, add_assoc, arith}
-use Rattle.std.proofs.lemmas.List.{take_more_set, take_more, take_all, drop_all, append_assoc, reverse-append, length-append, length-drop, length-reverse, length-take-le, get_or-drop, drop-append-le, take-append-le, drop-take, take-take}
+use Rattle.std.proofs.Common.{◌≡◌, ℕ, suc, ◌+◌, ◌-◌, ◌<◌, ◌≤◌, List, [], ◌∷◌, ◌++◌, reverse, length, get_or, take, drop, set, sym, refl, ap, ◌∙◌, add_assoc, arith}
+use Rattle.std.proofs.lemmas.List.{take_more_set, take_more, take_all, drop_all, reverse-append, length-append, length-drop, length-reverse, length-take-le, drop-append-le, take-append-le, drop-take, take-take}
 use Rattle.std.proofs.lemmas.Bool.{cond-true, cond-false, lt-ltb, le-ltb}
 use Rattle.objects.specs.declared.fault.Fault.TheVariants.{SyntaxError, LimitCheck}
 use Rattle.scanner.specs.Stocks.{going, complete, last, failed, opened, finished, finished_in, joined_to, ended_element, closed_over, closed, levels}
 use Rattle.scanner.specs.declared.element.Element.{Element}
 use Rattle.scanner.specs.declared.element.Element.TheVariants.{Procedure}
-
--- one more element is copied
-pub copied_more : (into first from : List Element) (at start i : ℕ) (d : Element) → at + i < length into → start + i < length from → take (at + i) into ≡ first ++ take i (drop start from) → take (at + (i + 1)) (set into (at + i) (get_or from (start + i) d)) ≡ first ++ take (i + 1) (drop start from)
-copied_more into first from at start i d h k e =
-    let x = get_or from (start + i) d in
-    let there : i < length (drop start from) = simp length-drop (omega arith) in
-    ap (λ n. take n (set into (at + i) x)) (sym (add_assoc at i 1)) ∙ take_more_set into (at + i) x h ∙ ap (λ l. l ++ x ∷ []) e ∙ append_assoc first (take i (drop start from)) (x ∷ [])
-    ∙ ap (λ y. first ++ (take i (drop start from) ++ y ∷ [])) (sym (get_or-drop start from i d)) ∙ ap (λ l. first ++ l) (sym (take_more (drop start from) i d there))
 
 -- the sizes, the innermost first
 innermost : (sizes : List ℕ) (k : ℕ) → k < length sizes → reverse (take (k + 1) sizes) ≡ get_or sizes k 0 ∷ reverse (take k sizes)
@@ -59,17 +51,15 @@ module _ (shut : List Element) (count : ℕ) (sizes : List ℕ) (es : List Eleme
 
   pub alone : (e : Element) → d ≡ 0 → complete e (record { shut = shut; pending = nested d sizes es; count = count }) ≡ ended_element e (record { shut = shut; pending = nested d sizes es; count = count })
   unfolding levels
-  alone e h =
-      let P : ℕ → Type 0 = λ k. complete e (record { shut = shut; pending = nested k sizes es; count = count }) ≡ ended_element e (record { shut = shut; pending = nested k sizes es; count = count }) in
-      subst P (sym h) refl
+  alone e h = rw h refl
 
   pub stray : d ≡ 0 → failed SyntaxError ≡ closed (record { shut = shut; pending = nested d sizes es; count = count })
   unfolding levels
-  stray h = let P : ℕ → Type 0 = λ k. failed SyntaxError ≡ closed (record { shut = shut; pending = nested k sizes es; count = count }) in subst P (sym h) refl
+  stray h = rw h refl
 
   pub end_finished : d ≡ 0 → last ≡ finished (record { shut = shut; pending = nested d sizes es; count = count })
   unfolding levels
-  end_finished h = let P : ℕ → Type 0 = λ k. last ≡ finished (record { shut = shut; pending = nested k sizes es; count = count }) in subst P (sym h) refl
+  end_finished h = rw h refl
 
 -- with k + 1 procedures open: the elements of the innermost, and what is open around it
 module _ (shut : List Element) (sizes : List ℕ) (d k : ℕ) (some : d ≡ k + 1) (within : k < length sizes) where
@@ -94,8 +84,8 @@ module _ (shut : List Element) (sizes : List ℕ) (d k : ℕ) (some : d ≡ k + 
       ap (λ j. nested j (set sizes k n) (take (m + 1) (set places m e))) some ∙ ap (λ ns. levels ns (take (m + 1) (set places m e))) (innermost_set sizes k n within)
       ∙ ap (levels (n ∷ reverse (take k sizes))) (take_more_set places m e there)
       ∙ levels_push size n (reverse (take k sizes)) es e (ap (λ j. j + 1 - n) long ∙ same ∙ ap (λ j. j - size) (sym long)) in
-      ap (λ l. going (record { shut = shut; pending = l; count = done + (m + 1) })) after
-      ∙ ap (λ c. going (record { shut = shut; pending = (drop (length es - size) es ++ e ∷ []) ∷ nested k sizes (take (length es - size) es); count = c })) (sym (add_assoc done m 1))
+      let counted = sym (add_assoc done m 1) in
+      (λ i. going (record { shut = shut; pending = after i; count = counted i }))
       ∙ sym (cond-true _ _ _ (lt-ltb (done + m) 512 few)) ∙ ap (joined_to e shut (done + m)) (sym (opening_out es))
 
   -- the innermost is closed: its elements lie behind those that were done
@@ -111,9 +101,11 @@ module _ (shut : List Element) (sizes : List ℕ) (d k : ℕ) (some : d ≡ k + 
       let few : len ≡ length (drop (length es - size) es) = omega (arith, length-drop (length es - size) es) in
       let rest : take start places ≡ take (length es - size) es = sym (take-take start m places (omega arith)) ∙ ap (λ j. take j es) (sym cut) in
       let total : done + len + start ≡ done + m = omega arith in
-      ap (λ l. joined_to (Procedure (record { start = done; len = len })) l (done + len + start) (nested k sizes (take start places))) (copied ∙ ap (λ l. shut ++ l) mine)
-      ∙ ap (λ l. joined_to (Procedure (record { start = done; len = len })) (shut ++ drop (length es - size) es) (done + len + start) (nested k sizes l)) rest
-      ∙ ap (λ c. joined_to (Procedure (record { start = done; len = len })) (shut ++ drop (length es - size) es) c (nested k sizes (take (length es - size) es))) total
-      ∙ ap (λ s. joined_to (Procedure (record { start = s; len = len })) (shut ++ drop (length es - size) es) (done + m) (nested k sizes (take (length es - size) es))) (sym long)
-      ∙ ap (λ n. joined_to (Procedure (record { start = length shut; len = n })) (shut ++ drop (length es - size) es) (done + m) (nested k sizes (take (length es - size) es))) few
-      ∙ ap (closed_over shut (done + m)) (sym (opening_out es))
+      let all : more ≡ shut ++ drop (length es - size) es = copied ∙ ap (λ l. shut ++ l) mine in
+      let begin = sym long in
+      let mine_done : ended_element (Procedure (record { start = done; len = len })) (record { shut = more; pending = nested k sizes (take start places); count = done + len + start }) ≡ closed_over shut (done + m) (drop (length es - size) es ∷ nested k sizes (take (length es - size) es)) =
+      λ i. joined_to (Procedure (record { start = begin i; len = few i })) (all i) (total i) (nested k sizes (rest i)) in
+      mine_done ∙ ap (closed_over shut (done + m)) (sym (opening_out es))
+
+-- what an opening brace does, and the end of an element
+pub ruleset pieces = (open_goes, open_fails, alone, element_goes)

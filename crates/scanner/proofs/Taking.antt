@@ -1,10 +1,12 @@
--- A piece, and so a token, takes bytes from the front only.
-use Rattle.std.proofs.Common.{ℕ, zero, suc, ◌+◌, ◌-◌, Bool, true, false, cond, ◌&&◌, ◌||◌, eqb, List, [], ◌∷◌, ◌++◌, length, drop, Ok, Err, Result, refl, ap, ◌∙◌}
-use Rattle.std.proofs.lemmas.List.{drop-drop}
+-- A piece, and so a token, takes bytes from the front only, and keeps at most 1,024 string bytes.
+use Rattle.std.proofs.Common.{ℕ, zero, suc, ◌+◌, ◌-◌, ◌<◌, ◌≤◌, Bool, true, false, cond, ◌&&◌, ◌||◌, eqb, ltb, List, [], ◌∷◌, ◌++◌, length, drop, Ok, Err, Result, refl, ap, ◌∙◌, arith}
+use Rattle.std.proofs.lemmas.List.{drop-drop, length_push, length-drop}
+use Rattle.std.proofs.lemmas.Bool.{cond_both, ltb-true}
 use Rattle.objects.specs.declared.fault.Fault.{Fault}
+use Rattle.objects.specs.declared.fault.Fault.TheVariants.{SyntaxError, LimitCheck}
 use Rattle.scanner.specs.Bytes.{white, ends_comment, ends_run}
 use Rattle.scanner.specs.Laws.{Taken}
-use Rattle.scanner.specs.Lexemes.{Piece, Reading, lexeme, skipped, past_comment, begun, body, escaped}
+use Rattle.scanner.specs.Lexemes.{Piece, ended, opening, closing, name, string, Reading, says, room, escape, lexeme, skipped, past_comment, begun, body, escaped}
 use Rattle.scanner.specs.Runs.{past_run}
 use Rattle.scanner.specs.Stocks.{Procedures, Outcome, going, complete, last, failed}
 use Rattle.scanner.specs.Tokens.{Scanned, met, names_met, by_outcome, by_piece, token_on}
@@ -18,65 +20,88 @@ takes_more b bs left h = (suc h.0, h.1)
 takes_then : (bs middle left : List ℕ) → Taken bs middle → Taken middle left → Taken bs left
 takes_then bs middle left h k = (h.0 + k.0, k.1 ∙ ap (drop k.0) h.1 ∙ drop-drop k.0 h.0 bs)
 
-either : (bs : List ℕ) (t : Bool) (x y : Reading) → Taken bs x.left → Taken bs y.left → Taken bs (cond t x y).left
-either bs true x y h k = h
-either bs false x y h k = k
+pub taken_le : (bs left : List ℕ) → Taken bs left → length left ≤ length bs
+taken_le bs left h = omega (arith, ap length h.1, length-drop h.0 bs)
 
-either_list : (bs : List ℕ) (t : Bool) (x y : List ℕ) → Taken bs x → Taken bs y → Taken bs (cond t x y)
-either_list bs true x y h k = h
-either_list bs false x y h k = k
+pub taken_lt : (b : ℕ) (bs left : List ℕ) → Taken bs left → length left < length (b ∷ bs)
+taken_lt b bs left h = omega (arith, taken_le bs left h)
+
+pub either : {A : Type 0} (P : A → Type 0) (t : Bool) (x y : A) → P x → P y → P (cond t x y)
+either P true x y h k = h
+either P false x y h k = k
+
+-- what is left is a rear of bs, and string bytes are added to those before, up to 1,024
+abbrev pub Reads : List ℕ → List ℕ → Reading → Type 0
+Reads bs out x = Taken bs x.left × (length out ≤ 1024 → (length out ≤ length x.strings) × (length x.strings ≤ 1024))
+
+here : (bs out : List ℕ) (r : Result Piece Fault) → Reads bs out (says r out bs)
+here bs out r = (takes_none bs, λ h. (omega arith, h))
+
+past : (b : ℕ) (bs out : List ℕ) (x : Reading) → Reads bs out x → Reads (b ∷ bs) out x
+past b bs out x h = (takes_more b bs x.left h.0, h.1)
+
+pub all : (bs out : List ℕ) (x : Reading) → Reads (drop 1 bs) out x → Reads bs out x
+all [] out x h = h
+all (b ∷ bs) out x h = past b bs out x h
+
+kept : (bs out : List ℕ) (b : ℕ) (x : Reading) → Reads (drop 1 bs) (out ++ b ∷ []) x → Reads bs out (room out x bs)
+kept bs out b x h =
+    let k = all bs (out ++ b ∷ []) x h in
+    cond_both (ltb (length out) 1024) _ _ (Reads bs out)
+    (λ t. (k.0, λ _. let l = k.1 (omega (arith, length_push out b, ltb-true (length out) 1024 t)) in (omega (arith, length_push out b, l.0), l.1)))
+    (λ _. here bs out (Err LimitCheck))
 
 mutual
   unfolding body escaped
 
-  in_body : (bs out : List ℕ) (n : ℕ) (r : Bool) → Taken bs (body bs out n r).left
-  in_body [] out n r = takes_none []
+  -- the first byte is taken, if there is one
+  pub in_body : (bs out : List ℕ) (n : ℕ) (r : Bool) → Reads (drop 1 bs) out (body bs out n r)
+  in_body [] out n r = here [] out (Err SyntaxError)
   in_body (b ∷ bs) out n r =
-      let here = takes_none bs in
-      takes_more b bs _
-      (either bs (r && eqb b 10) _ _ (in_body bs out n false)
-      (either bs (eqb b 41) _ _ (either bs (eqb n 0) _ _ here (either bs _ _ _ (in_body bs (out ++ b ∷ []) (n - 1) false) here))
-      (either bs (eqb b 40) _ _ (either bs _ _ _ (in_body bs (out ++ b ∷ []) (n + 1) false) here)
-      (either bs (eqb b 92) _ _ (in_escaped bs out n)
-      (either bs (eqb b 13) _ _ (either bs _ _ _ (in_body bs (out ++ 10 ∷ []) n true) here) (either bs _ _ _ (in_body bs (out ++ b ∷ []) n false) here))))))
+      let P = Reads bs out in
+      either P (r && eqb b 10) _ _ (all bs out (body bs out n false) (in_body bs out n false))
+      (either P (eqb b 41) _ _ (either P (eqb n 0) _ _ (here bs out (Ok string)) (kept bs out b _ (in_body bs (out ++ b ∷ []) (n - 1) false)))
+      (either P (eqb b 40) _ _ (kept bs out b _ (in_body bs (out ++ b ∷ []) (n + 1) false))
+      (either P (eqb b 92) _ _ (all bs out (escaped bs out n) (in_escaped bs out n))
+      (either P (eqb b 13) _ _ (kept bs out 10 _ (in_body bs (out ++ 10 ∷ []) n true)) (kept bs out b _ (in_body bs (out ++ b ∷ []) n false))))))
 
-  in_escaped : (bs out : List ℕ) (n : ℕ) → Taken bs (escaped bs out n).left
-  in_escaped [] out n = takes_none []
+  pub in_escaped : (bs out : List ℕ) (n : ℕ) → Reads (drop 1 bs) out (escaped bs out n)
+  in_escaped [] out n = here [] out (Err SyntaxError)
   in_escaped (b ∷ bs) out n =
-      let here = takes_none bs in
-      takes_more b bs _ (either bs (eqb b 10) _ _ (in_body bs out n false) (either bs (eqb b 13) _ _ (in_body bs out n true) (either bs _ _ _ (in_body bs (out ++ _ ∷ []) n false) here)))
+      let P = Reads bs out in
+      either P (eqb b 10) _ _ (all bs out (body bs out n false) (in_body bs out n false)) (either P (eqb b 13) _ _ (all bs out (body bs out n true) (in_body bs out n true)) (kept bs out (escape b) _ (in_body bs (out ++ escape b ∷ []) n false)))
 
-in_run : (bs : List ℕ) → Taken bs (past_run bs)
+pub in_run : (bs : List ℕ) → Taken bs (past_run bs)
 unfolding past_run
 in_run [] = takes_none []
-in_run (b ∷ bs) = either_list (b ∷ bs) (ends_run b) _ _ (takes_none (b ∷ bs)) (takes_more b bs _ (in_run bs))
+in_run (b ∷ bs) = either (Taken (b ∷ bs)) (ends_run b) _ _ (takes_none (b ∷ bs)) (takes_more b bs _ (in_run bs))
 
 mutual
   unfolding skipped past_comment
 
-  in_blanks : (bs : List ℕ) → Taken bs (skipped bs)
+  pub in_blanks : (bs : List ℕ) → Taken bs (skipped bs)
   in_blanks [] = takes_none []
-  in_blanks (b ∷ bs) = either_list (b ∷ bs) (white b) _ _ (takes_more b bs _ (in_blanks bs)) (either_list (b ∷ bs) (eqb b 37) _ _ (takes_more b bs _ (in_comment bs)) (takes_none (b ∷ bs)))
+  in_blanks (b ∷ bs) = either (Taken (b ∷ bs)) (white b) _ _ (takes_more b bs _ (in_blanks bs)) (either (Taken (b ∷ bs)) (eqb b 37) _ _ (takes_more b bs _ (in_comment bs)) (takes_none (b ∷ bs)))
 
-  in_comment : (bs : List ℕ) → Taken bs (past_comment bs)
+  pub in_comment : (bs : List ℕ) → Taken bs (past_comment bs)
   in_comment [] = takes_none []
-  in_comment (b ∷ bs) = either_list (b ∷ bs) (ends_comment b) _ _ (takes_more b bs _ (in_blanks bs)) (takes_more b bs _ (in_comment bs))
+  in_comment (b ∷ bs) = either (Taken (b ∷ bs)) (ends_comment b) _ _ (takes_more b bs _ (in_blanks bs)) (takes_more b bs _ (in_comment bs))
 
-in_piece : (out bs : List ℕ) → Taken bs (begun out bs).left
+in_piece : (out bs : List ℕ) → Reads bs out (begun out bs)
 unfolding begun
-in_piece out [] = takes_none []
+in_piece out [] = here [] out (Ok ended)
 in_piece out (b ∷ bs) =
-    let one = takes_more b bs bs (takes_none bs) in
-    let all = b ∷ bs in
-    either all (eqb b 40) _ _ (takes_more b bs _ (in_body bs out 0 false))
-    (either all (eqb b 47) _ _ (takes_more b bs _ (in_run bs))
-    (either all (eqb b 91 || eqb b 93) _ _ one
-    (either all (eqb b 123) _ _ one
-    (either all (eqb b 125) _ _ one
-    (either all (eqb b 41 || (eqb b 60 || eqb b 62)) _ _ one (in_run all))))))
+    let P = Reads (b ∷ bs) out in
+    let one : (r : Result Piece Fault) → P (says r out bs) = λ r. past b bs out (says r out bs) (here bs out r) in
+    either P (eqb b 40) _ _ (past b bs out (body bs out 0 false) (all bs out (body bs out 0 false) (in_body bs out 0 false)))
+    (either P (eqb b 47) _ _ (takes_more b bs _ (in_run bs), (one (Ok ended)).1)
+    (either P (eqb b 91 || eqb b 93) _ _ (one (Ok (name (b ∷ []))))
+    (either P (eqb b 123) _ _ (one (Ok opening))
+    (either P (eqb b 125) _ _ (one (Ok closing))
+    (either P (eqb b 41 || (eqb b 60 || eqb b 62)) _ _ (one (Err SyntaxError)) (in_run (b ∷ bs), (one (Ok ended)).1))))))
 
-pub in_lexeme : (out bs : List ℕ) → Taken bs (lexeme out bs).left
-in_lexeme out bs = takes_then bs (skipped bs) _ (in_blanks bs) (in_piece out (skipped bs))
+pub in_lexeme : (out bs : List ℕ) → Reads bs out (lexeme out bs)
+in_lexeme out bs = let h = in_piece out (skipped bs) in (takes_then bs (skipped bs) _ (in_blanks bs) h.0, h.1)
 
 module _ (names : List (List ℕ)) (out bs : List ℕ) where
   by_outcome_takes : (o : Outcome) (more : Procedures → Scanned) → ((q : Procedures) → Taken bs (more q).left) → Taken bs (by_outcome o names out bs more).left
@@ -94,4 +119,4 @@ unfolding token_on
 from_front zero names p out bs = takes_none bs
 from_front (suc turns) names p out bs =
     let r = lexeme out bs in
-    takes_then bs r.left _ (in_lexeme out bs) (by_piece_takes r.strings r.left r.said (length out) names p (token_on turns) (λ after q. from_front turns after q r.strings r.left))
+    takes_then bs r.left _ (in_lexeme out bs).0 (by_piece_takes r.strings r.left r.said (length out) names p (token_on turns) (λ after q. from_front turns after q r.strings r.left))

@@ -28,11 +28,11 @@ and_then (whole e k) more = more e k
 and_then (broken f names bs) more = broken f names bs
 
 abbrev pub read_to : Kept → Reading → Kept
-read_to k r = record { names = k.names; shut = k.shut; count = k.count; strings = r.strings; left = r.left }
+read_to k r = record k { strings = r.strings; left = r.left }
 
 -- a name joins the name table
 abbrev pub numbered : Bool → Result ℕ Fault → List (List ℕ) → Kept → Spelled
-numbered executable (Ok n) names k = whole (Object (record { value = Name n; executable = executable })) (record { names = names; shut = k.shut; count = k.count; strings = k.strings; left = k.left })
+numbered executable (Ok n) names k = whole (Object (record { value = Name n; executable = executable })) (record k { names = names })
 numbered executable (Err f) names k = broken f names k.left
 
 abbrev pub a_name : Bool → List ℕ → Kept → Spelled
@@ -40,13 +40,13 @@ a_name executable text k = numbered executable (join_answer text k.names) (names
 
 -- one more of at most 512 elements, and then more
 abbrev pub one_more : (List Element → Kept → Spelled) → List Element → Element → Kept → Spelled
-one_more more mine e k = cond (nat_lt k.count 512) (more (mine ++ e ∷ []) (record { names = k.names; shut = k.shut; count = k.count + 1; strings = k.strings; left = k.left })) (broken LimitCheck k.names k.left)
+one_more more mine e k = cond (nat_lt k.count 512) (more (mine ++ e ∷ []) (record k { count = k.count + 1 })) (broken LimitCheck k.names k.left)
 
 -- the piece that comes next in a procedure; its elements lie behind those of all that closed before it
 abbrev pub in_procedure : (List Element → Kept → Spelled) → (Kept → Spelled) → ℕ → List Element → ℕ → Kept → Result Piece Fault → Spelled
 in_procedure more inner depth mine before k (Err f) = broken f k.names k.left
 in_procedure more inner depth mine before k (Ok ended) = broken SyntaxError k.names k.left
-in_procedure more inner depth mine before k (Ok closing) = whole (Procedure (record { start = length k.shut; len = length mine })) (record { names = k.names; shut = k.shut ++ mine; count = k.count; strings = k.strings; left = k.left })
+in_procedure more inner depth mine before k (Ok closing) = whole (Procedure (record { start = length k.shut; len = length mine })) (record k { shut = k.shut ++ mine })
 in_procedure more inner depth mine before k (Ok opening) = cond (nat_lt depth 16) (and_then (inner k) (one_more more mine)) (broken LimitCheck k.names k.left)
 in_procedure more inner depth mine before k (Ok (integer z)) = one_more more mine (Object (record { value = Integer z; executable = false })) k
 in_procedure more inner depth mine before k (Ok (name text)) = and_then (a_name true text k) (one_more more mine)

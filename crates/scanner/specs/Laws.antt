@@ -6,14 +6,14 @@ use Rattle.objects.specs.Decimals.{integer_text}
 use Rattle.objects.specs.declared.fault.Fault.{Fault}
 use Rattle.objects.specs.declared.object.Value.TheVariants.{Integer}
 use Rattle.scanner.specs.Bytes.{white, ends_comment, ends_run}
-use Rattle.scanner.specs.Lexemes.{Piece, ended, opening, closing, integer, name, literal, string, lexeme}
+use Rattle.scanner.specs.Lexemes.{Piece, ended, name, literal, lexeme}
 use Rattle.scanner.specs.Grammar.{Kept, procedure_rest, token}
 use Rattle.scanner.specs.Tokens.{Scanned, gives, no_procedures}
 use Rattle.scanner.specs.declared.element.Element.{Element}
 use Rattle.scanner.specs.declared.element.Element.TheVariants.{Object}
 
 abbrev pub with_left : Kept → List ℕ → Kept
-with_left k bs = record { names = k.names; shut = k.shut; count = k.count; strings = k.strings; left = bs }
+with_left k bs = record k { left = bs }
 
 -- bytes of a comment, none of which ends it
 pub data Remark : List ℕ → Type 0 where
@@ -35,12 +35,9 @@ pub record BlanksVanish : Type 0 where
 abbrev pub with_name : Result Piece Fault → List (List ℕ) → List (List ℕ)
 with_name (Err f) rest = []
 with_name (Ok ended) rest = []
-with_name (Ok opening) rest = rest
-with_name (Ok closing) rest = rest
-with_name (Ok (integer z)) rest = rest
 with_name (Ok (name text)) rest = text ∷ rest
 with_name (Ok (literal text)) rest = text ∷ rest
-with_name (Ok string) rest = rest
+with_name (Ok x) rest = rest
 
 unfoldable pub names_on : ℕ → List ℕ → List ℕ → List (List ℕ)
 names_on zero out bs = []
@@ -58,7 +55,7 @@ abbrev pub Taken : List ℕ → List ℕ → Type 0
 Taken before after = (n : ℕ) × (after ≡ drop n before)
 
 abbrev pub but_left : Scanned → List ℕ → Scanned
-but_left s bs = record { answer = s.answer; slots = s.slots; bytes = s.bytes; names = s.names; left = bs }
+but_left s bs = record s { left = bs }
 
 -- A token hangs on the bytes that it takes, whole or not, and on the byte behind them only in that it ends a run:
 -- whatever else comes there, the token is the same. So it does not matter which blanks stand between two tokens.

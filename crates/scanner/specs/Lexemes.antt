@@ -5,8 +5,8 @@ use Rattle.objects.specs.declared.fault.Fault.TheVariants.{SyntaxError, LimitChe
 use Rattle.scanner.specs.Bytes.{white, ends_comment}
 use Rattle.objects.specs.Decimals.{integer_read}
 use Rattle.scanner.specs.Runs.{run_of, past_run, within_limit}
-use Rattle.objects.specs.declared.integer.IntegerReading.{IntegerReading}
-use Rattle.objects.specs.declared.integer.IntegerReading.TheVariants.{NotInteger, Integer, OutOfRange}
+use Rattle.objects.specs.declared.integer.IntegerError.{IntegerError}
+use Rattle.objects.specs.declared.integer.IntegerError.TheVariants.{NotInteger, OutOfRange}
 
 pub data Piece : Type 0 where
   ended : Piece
@@ -66,10 +66,10 @@ unfoldable mutual
       (room out (body bs (out ++ escape b ∷ []) n false) bs))
 
 -- a run that is not after a slash is an integer or else a name
-abbrev pub of_kind : List ℕ → IntegerReading → Result Piece Fault
-of_kind bs NotInteger = Ok (name bs)
-of_kind bs (Integer z) = Ok (integer z)
-of_kind bs OutOfRange = Err LimitCheck
+abbrev pub of_kind : List ℕ → Result ℤ IntegerError → Result Piece Fault
+of_kind bs (Ok z) = Ok (integer z)
+of_kind bs (Err NotInteger) = Ok (name bs)
+of_kind bs (Err OutOfRange) = Err LimitCheck
 
 abbrev pub plain : Option (List ℕ) → Result Piece Fault
 plain None = Err LimitCheck

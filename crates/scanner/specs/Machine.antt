@@ -4,6 +4,7 @@ use Rattle.objects.specs.declared.fault.Fault.{Fault}
 use Rattle.scanner.specs.Gathered.{kept, so_far}
 use Rattle.scanner.specs.Lexemes.{Piece, ended, opening, closing, integer, name, literal, string, Reading, says, begun, skipped, past_comment, body, escaped, plain, slashed}
 use Rattle.scanner.specs.Runs.{run_of, past_run, gathered}
+use Rattle.scanner.specs.declared.cursor.Cursor.{Cursor}
 use Rattle.scanner.specs.declared.lexer.Lexer.{Lexer}
 use Rattle.scanner.specs.declared.run.Run.{Run}
 use Rattle.scanner.specs.declared.state.State.{State}
@@ -18,12 +19,9 @@ abbrev pub string_bytes : Lexer → ℕ → List ℕ
 string_bytes l used = take used l.strings
 
 abbrev pub open_brackets : State → ℕ
-open_brackets Between = 0
-open_brackets Comment = 0
-open_brackets Plain = 0
-open_brackets Slashed = 0
 open_brackets (Text n returned) = n
 open_brackets (Escaped n) = n
+open_brackets s = 0
 
 -- what is read from a state on, with the run and the string bytes so far
 abbrev pub reading : State → Option (List ℕ) → List ℕ → List ℕ → Reading
@@ -34,8 +32,8 @@ reading Slashed o out bs = says (slashed (gathered o (run_of bs))) out (past_run
 reading (Text n returned) o out bs = body bs out n returned
 reading (Escaped n) o out bs = escaped bs out n
 
-abbrev pub resumed : Lexer → ℕ → List ℕ → Reading
-resumed l used bs = reading l.state (so_far l.run) (string_bytes l used) bs
+abbrev pub resumed : Cursor → List ℕ → List ℕ → Reading
+resumed c out bs = reading c.state (so_far c.run) out bs
 
 abbrev pub piece : Run → Lexeme → Piece
 piece run Ended = ended
@@ -51,10 +49,10 @@ heard run (Ok l) = Ok (piece run l)
 heard run (Err f) = Err f
 
 -- what a step leads to, where the bytes after the one that it was given are bs
-abbrev pub went : Lexer → ℕ → Step → ℕ → List ℕ → Reading
-went l used On b bs = resumed l used bs
-went l used (Take r) b bs = says (heard l.run r) (string_bytes l used) bs
-went l used (Leave r) b bs = says (heard l.run r) (string_bytes l used) (b ∷ bs)
+abbrev pub went : Cursor → List ℕ → Step → ℕ → List ℕ → Reading
+went c out On b bs = resumed c out bs
+went c out (Take r) b bs = says (heard c.run r) out bs
+went c out (Leave r) b bs = says (heard c.run r) out (b ∷ bs)
 
 -- the count tells how many string bytes there are
 abbrev pub Counted : Lexer → ℕ → Type 0

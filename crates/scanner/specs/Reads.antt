@@ -2,11 +2,10 @@
 use Rattle.std.specs.Prelude.{ℕ, List, take, Some, None, Ok, Err, Option, Result}
 use Rattle.objects.specs.declared.fault.Fault.{Fault}
 use Rattle.scanner.specs.Machine.{string_bytes}
-use Rattle.scanner.specs.Stocks.{Procedures, procedures, heard}
+use Rattle.scanner.specs.Stocks.{Procedures, Progress, procedures, heard}
 use Rattle.scanner.specs.Tokens.{Scanned, none, refuses, by_outcome}
 use Rattle.scanner.specs.declared.buffers.Buffers.{Buffers}
 use Rattle.scanner.specs.declared.counts.Counts.{Counts}
-use Rattle.scanner.specs.declared.stock.Progress.{Progress}
 use Rattle.scanner.specs.declared.token.Token.{Token}
 
 abbrev pub in_progress : Buffers → Counts → Procedures

@@ -17,10 +17,6 @@ abbrev pub first : List ℕ → Option ℕ
 first [] = None
 first (b ∷ bs) = Some b
 
-abbrev pub rest : List ℕ → List ℕ
-rest [] = []
-rest (b ∷ bs) = bs
-
 -- the count of bytes taken stops at the last number that it can hold
 abbrev pub at_most_last_place : ℕ → ℕ
 at_most_last_place n = min n 4294967295

@@ -1,11 +1,11 @@
 -- The procedures of a token while it is read.
-use Rattle.std.specs.Prelude.{ℕ, ◌+◌, ◌-◌, cond, List, [], ◌∷◌, ◌++◌, reverse, length, take, drop, Ok, Err, Result, nat_lt}
+use Rattle.std.specs.Prelude.{ℕ, ◌+◌, ◌-◌, cond, List, [], ◌∷◌, ◌++◌, reverse, length, take, drop, Some, None, Ok, Err, Option, Result, nat_lt}
+use Rattle.std.specs.declared.ops.ControlFlow.{ControlFlow}
+use Rattle.std.specs.declared.ops.ControlFlow.TheVariants.{Continue, Break}
 use Rattle.objects.specs.declared.fault.Fault.{Fault}
 use Rattle.objects.specs.declared.fault.Fault.TheVariants.{SyntaxError, LimitCheck}
 use Rattle.scanner.specs.declared.element.Element.{Element}
 use Rattle.scanner.specs.declared.element.Element.TheVariants.{Procedure}
-use Rattle.scanner.specs.declared.stock.Progress.{Progress}
-use Rattle.scanner.specs.declared.stock.Progress.TheVariants.{On, Complete, Finished}
 use Rattle.scanner.specs.declared.stock.Stock.{Stock}
 use Rattle.scanner.specs.declared.tally.Tally.{Tally}
 
@@ -24,7 +24,7 @@ pub data Outcome : Type 0 where
 
 -- a procedure begins: at most 16 are open at a time
 abbrev pub opened : Procedures → Outcome
-opened p = cond (nat_lt (length p.pending) 16) (going (record { shut = p.shut; pending = [] ∷ p.pending; count = p.count })) (failed LimitCheck)
+opened p = cond (nat_lt (length p.pending) 16) (going (record p { pending = [] ∷ p.pending })) (failed LimitCheck)
 
 -- an element ends: outside of procedures it is the whole token, and else it is one of at most 512 elements
 abbrev pub joined_to : Element → List Element → ℕ → List (List Element) → Outcome
@@ -62,9 +62,13 @@ procedures s t = record {
   count = t.done + t.pending;
 }
 
+-- what a piece leads to, as the code answers it
+abbrev pub Progress : Type 0
+Progress = ControlFlow (Option Element) Unit
+
 -- what is answered and left
 abbrev pub heard : Stock → Tally → Result Progress Fault → Outcome
-heard s t (Ok On) = going (procedures s t)
-heard s t (Ok (Complete e)) = complete e (procedures s t)
-heard s t (Ok Finished) = last
+heard s t (Ok (Continue u)) = going (procedures s t)
+heard s t (Ok (Break (Some e))) = complete e (procedures s t)
+heard s t (Ok (Break None)) = last
 heard s t (Err f) = failed f

@@ -27,13 +27,9 @@ met string before after names p = ended_element (String (record { start = before
 
 -- every name joins the name table as it is read
 abbrev pub names_met : Piece → List (List ℕ) → List (List ℕ)
-names_met ended names = names
-names_met opening names = names
-names_met closing names = names
-names_met (integer z) names = names
 names_met (name text) names = names_joined text names
 names_met (literal text) names = names_joined text names
-names_met string names = names
+names_met x names = names
 
 -- What scanning gives: a token, none at the end of the text, or a refusal; what is to be written into the slots and bytes that the token will take;
 -- the name table; and the bytes that are left.

@@ -1,44 +1,34 @@
 // From bytes to the pieces of a text: names, integers, strings and braces.
-ghost use Rattle.std.specs.Prelude.{◌≡◌, ℕ, ◌+◌, ◌<◌, ◌≤◌, true, false, List, [], ◌∷◌, ◌++◌, take, Some, Ok};
-ghost use Rattle.scanner.specs.Runs.{gather};
+ghost use Rattle.std.specs.Prelude.{◌≡◌, ℕ, ◌+◌, ◌≤◌, List, [], ◌∷◌, ◌++◌, take};
 ghost use Rattle.scanner.specs.Machine.{reading, went, resumed, string_bytes, Counted, heard, open_brackets};
 ghost use Rattle.scanner.specs.Gathered.{kept, so_far};
 ghost use Rattle.scanner.specs.Sources.{to_come, whole};
-ghost use Rattle.scanner.specs.Lexemes.{name, says, room, lexeme, plain, slashed, escape};
+ghost use Rattle.scanner.specs.Lexemes.{says, room, lexeme, escape};
 
-use crate::run::{Run, ends_run};
+use crate::cursor::Cursor;
+use crate::run::ends_run;
 use crate::source::{Ending, Source};
 use crate::state::{Lexeme, State, Step};
 use objects::fault::Fault;
-use objects::integer::{IntegerReading, read_integer};
+use objects::front::front;
 
 // The string bytes that one outermost token may have.
 const MOST_BYTES: u16 = 1024;
 
 #[derive(Drop)]
 pub struct Lexer {
-    state: State,
-    run: Run,
+    cursor: Cursor,
+    // Kept: how many of these bytes are in use stands in the counters, which the guard puts back.
     strings: [u8; 1024],
 }
 
-// In a string, with so many brackets open inside it.
-fn text(brackets: u16) -> State
-    ensures { result ≡ State.Text brackets false }
+// In a string, with so many brackets open inside it, and perhaps just after byte 13.
+fn text(brackets: u16, returned: bool) -> State
+    ensures { result ≡ State.Text brackets returned }
 {
     State::Text {
         open: brackets,
-        returned: false,
-    }
-}
-
-// The same, after byte 13.
-fn returned(brackets: u16) -> State
-    ensures { result ≡ State.Text brackets true }
-{
-    State::Text {
-        open: brackets,
-        returned: true,
+        returned,
     }
 }
 
@@ -56,8 +46,7 @@ fn escape_of(byte: u8) -> u8
 
 impl Lexer {
     pub const NEW: Lexer = Lexer {
-        state: State::Between,
-        run: Run::EMPTY,
+        cursor: Cursor::START,
         strings: [0; 1024],
     };
 
@@ -65,75 +54,20 @@ impl Lexer {
     pub fn bytes(&self, count: u16) -> &[u8]
         ensures { result.now ≡ take count self.now.strings }
     {
-        if count < MOST_BYTES {
-            &self.strings[0..count as usize]
-        } else {
-            &self.strings
-        }
-    }
-
-    // Reading goes on in another state.
-    fn go(&mut self, state: State) -> Step
-        ensures goes { (used b : ℕ) (bs : List ℕ) → went self.new used result b bs ≡ reading state (so_far self.old.run) (string_bytes self.old used) bs }
-        ensures state { self.new.state ≡ state }
-        ensures strings { self.new.strings ≡ self.old.strings }
-    {
-        self.state = state;
-        Step::On
-    }
-
-    // Reading goes on in a run of which nothing is read yet.
-    fn begin(&mut self, state: State) -> Step
-        ensures goes { (used b : ℕ) (bs : List ℕ) → went self.new used result b bs ≡ reading state (Some []) (string_bytes self.old used) bs }
-        ensures state { self.new.state ≡ state }
-        ensures strings { self.new.strings ≡ self.old.strings }
-    {
-        self.run.clear();
-        self.go(state)
-    }
-
-    // Reading goes on in the run, which has one more byte.
-    fn gather(&mut self, byte: u8) -> Step
-        ensures goes { (used b : ℕ) (bs : List ℕ) → went self.new used result b bs ≡ reading self.old.state (gather (so_far self.old.run) byte) (string_bytes self.old used) bs }
-        ensures state { self.new.state ≡ self.old.state }
-        ensures strings { self.new.strings ≡ self.old.strings }
-    {
-        self.run.gather(byte);
-        Step::On
-    }
-
-    // A run begins with this byte.
-    fn first(&mut self, byte: u8) -> Step
-        ensures goes { (used b : ℕ) (bs : List ℕ) → went self.new used result b bs ≡ reading State.Plain (Some (byte ∷ [])) (string_bytes self.old used) bs }
-        ensures state { self.new.state ≡ State.Plain }
-        ensures strings { self.new.strings ≡ self.old.strings }
-    {
-        self.run.clear();
-        self.run.gather(byte);
-        self.go(State::Plain)
-    }
-
-    // The byte is a name by itself.
-    fn alone(&mut self, byte: u8) -> Step
-        ensures goes { (used b : ℕ) (bs : List ℕ) → went self.new used result b bs ≡ says (Ok (name (byte ∷ []))) (string_bytes self.old used) bs }
-        ensures state { self.new.state ≡ self.old.state }
-        ensures strings { self.new.strings ≡ self.old.strings }
-    {
-        self.run.clear();
-        self.run.gather(byte);
-        Step::Take(Ok(Lexeme::Name))
+        front(&self.strings, usize::from(count))
     }
 
     // Keeps a byte of a string, if the token has not as many as it may have, and goes on in another state.
+    #[tactic(auto, using(crate::proofs::Steps::one_more))]
     fn keep(&mut self, used: &mut u16, state: State, byte: u8) -> Step
-        ensures goes { (b : ℕ) (bs : List ℕ) → went self.new used.new result b bs ≡ room (string_bytes self.old used.old) (reading state (so_far self.old.run) (string_bytes self.old used.old ++ byte ∷ []) bs) bs }
-        ensures state { self.new.state ≡ state }
+        ensures goes { (b : ℕ) (bs : List ℕ) → went self.new.cursor (string_bytes self.new used.new) result b bs ≡ room (string_bytes self.old used.old) (reading state (so_far self.old.cursor.run) (string_bytes self.old used.old ++ byte ∷ []) bs) bs }
+        ensures state { self.new.cursor.state ≡ state }
         ensures grows { result ≡ Step.On → used.new ≡ used.old + 1 }
         ensures counted { Counted self.old used.old → Counted self.new used.new }
     {
-        self.state = state;
+        self.cursor.state = state;
         if *used < MOST_BYTES {
-            self.strings[*used as usize] = byte;
+            self.strings[usize::from(*used)] = byte;
             *used += 1;
             Step::On
         } else {
@@ -141,98 +75,69 @@ impl Lexer {
         }
     }
 
-    fn plain(&self) -> Result<Lexeme, Fault>
-        ensures { heard self.now.run result ≡ plain (so_far self.now.run) }
-    {
-        if self.run.is_long() {
-            return Err(Fault::LimitCheck);
-        }
-        match read_integer(self.run.text()) {
-            IntegerReading::Integer(number) => Ok(Lexeme::Integer(number)),
-            IntegerReading::OutOfRange => Err(Fault::LimitCheck),
-            IntegerReading::NotInteger => Ok(Lexeme::Name),
-        }
-    }
-
-    fn slashed(&self) -> Result<Lexeme, Fault>
-        ensures { heard self.now.run result ≡ slashed (so_far self.now.run) }
-    {
-        if self.run.is_long() {
-            Err(Fault::LimitCheck)
-        } else {
-            Ok(Lexeme::Literal)
-        }
-    }
-
     // What the byte does where the scanner is.
+    #[tactic(auto, using(crate::proofs::Steps::at_a_byte))]
     fn step(&mut self, used: &mut u16, byte: u8) -> Step
-        requires { open_brackets self.old.state ≤ used.old }
-        ensures goes { (bs : List ℕ) → went self.new used.new result byte bs ≡ resumed self.old used.old (byte ∷ bs) }
-        ensures within { result ≡ Step.On → open_brackets self.new.state ≤ used.new }
+        requires { open_brackets self.old.cursor.state ≤ used.old }
+        ensures goes { (bs : List ℕ) → went self.new.cursor (string_bytes self.new used.new) result byte bs ≡ resumed self.old.cursor (string_bytes self.old used.old) (byte ∷ bs) }
+        ensures within { result ≡ Step.On → open_brackets self.new.cursor.state ≤ used.new }
         ensures counted { Counted self.old used.old → Counted self.new used.new }
     {
-        match (self.state, byte) {
+        match (self.cursor.state, byte) {
             (State::Between, 0 | 9 | 10 | 12 | 13 | b' ') => Step::On,
-            (State::Between, b'%') => self.go(State::Comment),
-            (State::Between, b'(') => self.go(text(0)),
-            (State::Between, b'/') => self.begin(State::Slashed),
-            (State::Between, b'[' | b']') => self.alone(byte),
+            (State::Between, b'%') => self.cursor.go(State::Comment),
+            (State::Between, b'(') => self.cursor.go(text(0, false)),
+            (State::Between, b'/') => self.cursor.begin(State::Slashed),
+            (State::Between, b'[' | b']') => self.cursor.alone(byte),
             (State::Between, b'{') => Step::Take(Ok(Lexeme::Opening)),
             (State::Between, b'}') => Step::Take(Ok(Lexeme::Closing)),
             (State::Between, b')' | b'<' | b'>') => Step::Take(Err(Fault::SyntaxError)),
-            (State::Between, _) => self.first(byte),
-            (State::Comment, 10 | 12 | 13) => self.go(State::Between),
+            (State::Between, _) => self.cursor.first(byte),
+            (State::Comment, 10 | 12 | 13) => self.cursor.go(State::Between),
             (State::Comment, _) => Step::On,
-            (State::Plain, _) if ends_run(byte) => Step::Leave(self.plain()),
-            (State::Plain, _) => self.gather(byte),
-            (State::Slashed, _) if ends_run(byte) => Step::Leave(self.slashed()),
-            (State::Slashed, _) => self.gather(byte),
+            (State::Plain, _) if ends_run(byte) => Step::Leave(self.cursor.plain()),
+            (State::Plain, _) => self.cursor.gather(byte),
+            (State::Slashed, _) if ends_run(byte) => Step::Leave(self.cursor.slashed()),
+            (State::Slashed, _) => self.cursor.gather(byte),
             (
                 State::Text {
                     open,
                     returned: true,
                 },
                 10,
-            ) => self.go(text(open)),
+            ) => self.cursor.go(text(open, false)),
             (State::Text { open: 0, .. }, b')') => Step::Take(Ok(Lexeme::String)),
-            (State::Text { open, .. }, b')') => self.keep(used, text(open - 1), byte),
+            (State::Text { open, .. }, b')') => self.keep(used, text(open - 1, false), byte),
             // each open bracket is a byte kept, so there are never too many for the sum
-            (State::Text { open, .. }, b'(') => self.keep(used, text(open.saturating_add(1)), byte),
-            (State::Text { open, .. }, b'\\') => self.go(State::Escaped { open }),
-            (State::Text { open, .. }, 13) => self.keep(used, returned(open), 10),
-            (State::Text { open, .. }, _) => self.keep(used, text(open), byte),
-            (State::Escaped { open }, 10) => self.go(text(open)),
-            (State::Escaped { open }, 13) => self.go(returned(open)),
-            (State::Escaped { open }, _) => self.keep(used, text(open), escape_of(byte)),
+            (State::Text { open, .. }, b'(') => self.keep(
+                used,
+                text(open.saturating_add(1), false),
+                byte,
+            ),
+            (State::Text { open, .. }, b'\\') => self.cursor.go(State::Escaped { open }),
+            (State::Text { open, .. }, 13) => self.keep(used, text(open, true), 10),
+            (State::Text { open, .. }, _) => self.keep(used, text(open, false), byte),
+            (State::Escaped { open }, 10) => self.cursor.go(text(open, false)),
+            (State::Escaped { open }, 13) => self.cursor.go(text(open, true)),
+            (State::Escaped { open }, _) => self.keep(used, text(open, false), escape_of(byte)),
         }
     }
 
-    // What the end of the source leaves.
-    fn ended(&self) -> Result<Lexeme, Fault>
-        ensures { (used : ℕ) → says (heard self.now.run result) (string_bytes self.now used) [] ≡ resumed self.now used [] }
-    {
-        match self.state {
-            State::Between | State::Comment => Ok(Lexeme::Ended),
-            State::Plain => self.plain(),
-            State::Slashed => self.slashed(),
-            State::Text { .. } | State::Escaped { .. } => Err(Fault::SyntaxError),
-        }
-    }
-
-    // The bytes of the run just read.
+    // The bytes of the run just read: all of them, if it is not too long.
     pub fn text(&self) -> &[u8]
-        ensures { result.now ≡ kept self.now.run }
+        ensures { result.now ≡ kept self.now.cursor.run }
     {
-        self.run.text()
+        self.cursor.text()
     }
 
     // Reads the next piece of the text. The bytes of a string go after those that the token has so far.
+    // Kept: that the count tells the bytes is a clause and not a fact of a type, since the guard lends the count apart from the bytes.
     pub fn lexeme(&mut self, used: &mut u16, source: &mut Source) -> Result<Lexeme, Fault>
-        ensures reading { says (heard self.new.run result) (string_bytes self.new used.new) (to_come source.new) ≡ lexeme (string_bytes self.old used.old) (to_come source.old) }
+        ensures reading { says (heard self.new.cursor.run result) (string_bytes self.new used.new) (to_come source.new) ≡ lexeme (string_bytes self.old used.old) (to_come source.old) }
         ensures counted { Counted self.old used.old → Counted self.new used.new }
         ensures whole { whole source.new ≡ whole source.old }
     {
-        self.state = State::Between;
+        self.cursor.state = State::Between;
         while let Some(byte) = source.look() {
             match self.step(used, byte) {
                 Step::On => {
@@ -246,7 +151,7 @@ impl Lexer {
             }
         }
         match source.ending() {
-            Ending::Ended => self.ended(),
+            Ending::Ended => self.cursor.ended(),
         }
     }
 }

@@ -2,8 +2,6 @@
 ghost use Rattle.std.specs.Prelude.{◌≡◌, ◌+◌};
 ghost use Rattle.scanner.specs.Sources.{at_most_last_place};
 
-const LAST_PLACE: usize = 4294967295;
-
 #[derive(Clone, Copy, PartialEq, Eq, Debug)]
 pub struct Place {
     pub taken: u32,
@@ -16,7 +14,7 @@ impl Place {
     pub fn pass(&mut self, bytes: usize)
         ensures { self.new.taken ≡ at_most_last_place (self.old.taken + bytes) }
     {
-        let more = bytes.min(LAST_PLACE) as u32;
+        let more = u32::try_from(bytes).unwrap_or(u32::MAX);
         self.taken = self.taken.saturating_add(more);
     }
 }

@@ -1,6 +1,5 @@
 // The scanner's scratch: fixed memory for the token that is being read.
 ghost use Rattle.std.specs.Prelude.{◌≡◌, take};
-ghost use Rattle.names.specs.Table.{model};
 ghost use Rattle.scanner.specs.Grammar.{token};
 ghost use Rattle.scanner.specs.Laws.{NamesJoin, Taken, BlanksVanish, StandsAlone, DecimalsReturn};
 ghost use Rattle.scanner.specs.Reads.{scanned};
@@ -35,12 +34,12 @@ impl Scratch {
         names: &mut NameTable,
         source: &mut Source,
     ) -> Result<Option<Token>, Fault>
-        ensures reading { scanned self.new.buffers result (model names.new) (to_come source.new) ≡ token (model names.old) (to_come source.old) }
+        ensures reading { scanned self.new.buffers result names.new (to_come source.new) ≡ token names.old (to_come source.old) }
         ensures counters { self.new.counts ≡ self.old.counts }
-        ensures joined { NamesJoin (to_come source.old) (model names.old) (model names.new) }
+        ensures joined { NamesJoin (to_come source.old) names.old names.new }
         ensures taken { Taken (to_come source.old) (to_come source.new) }
         ensures whole { whole source.new ≡ whole source.old }
-        ensures sound { Sound (scanned self.new.buffers result (model names.new) (to_come source.new)) }
+        ensures sound { Sound (scanned self.new.buffers result names.new (to_come source.new)) }
         ensures blanks { BlanksVanish }
         ensures alone { StandsAlone }
         ensures decimals { DecimalsReturn }

@@ -1,9 +1,11 @@
 // A source of bytes: a text and the place reached in it. Whoever reads it looks at the next byte, takes it, or asks why there is none.
 ghost use Rattle.std.specs.Prelude.{◌≡◌};
-ghost use Rattle.scanner.specs.Sources.{to_come, taken, whole, first, rest};
+ghost use Rattle.std.specs.Iterator.{YieldsFirst, item_count};
+ghost use Rattle.scanner.specs.Sources.{to_come, taken, whole, first};
 ghost use Rattle.scanner.specs.declared.source.Ending.TheVariants.{Ended};
 
 // Why a source has no next byte.
+// Kept: one variant today. Sources will later decode their bytes (docs/DECISIONS.md), and then there are other reasons to end.
 #[derive(Clone, Copy, PartialEq, Eq, Debug)]
 pub enum Ending {
     // the text came to its end
@@ -28,26 +30,7 @@ impl<'t> Source<'t> {
     pub fn look(&self) -> Option<u8>
         ensures { result ≡ first (to_come self.now) }
     {
-        if self.place < self.text.len() {
-            Some(self.text[self.place])
-        } else {
-            None
-        }
-    }
-
-    // Takes the next byte.
-    pub fn next(&mut self) -> Option<u8>
-        ensures answer { result ≡ first (to_come self.old) }
-        ensures after { to_come self.new ≡ rest (to_come self.old) }
-        ensures whole { whole self.new ≡ whole self.old }
-    {
-        if self.place < self.text.len() {
-            let byte = self.text[self.place];
-            self.place += 1;
-            Some(byte)
-        } else {
-            None
-        }
+        self.text.get(self.place).copied()
     }
 
     // How many bytes were taken.
@@ -62,5 +45,20 @@ impl<'t> Source<'t> {
         ensures { result ≡ Ended }
     {
         Ending::Ended
+    }
+}
+
+// Takes the bytes to come, one after the other.
+impl Iterator for Source<'_> {
+    type Item = u8;
+
+    ghost next_gives = { λ s byte t. YieldsFirst to_come s byte t × (whole t ≡ whole s) };
+
+    ghost remaining = { item_count to_come };
+
+    fn next(&mut self) -> Option<u8> {
+        let byte = self.look()?;
+        self.place += 1;
+        Some(byte)
     }
 }

@@ -28,6 +28,7 @@ pub enum Lexeme {
 }
 
 // What a byte leads to: reading goes on behind it, or it comes to an end behind the byte or before it.
+// Kept: the library has no type with two ways to end beside one to go on.
 #[derive(Clone, Copy)]
 pub enum Step {
     On,

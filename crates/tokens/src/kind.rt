@@ -2,6 +2,7 @@
 use objects::object::Value;
 use scanner::element::Element;
 
+// Kept: a function and no Display, since the type is another crate's and the words are those of this listing.
 pub fn kind(element: Element) -> &'static str {
     match element {
         Element::String(_) => "string",

@@ -1,33 +1,33 @@
 // The part of a text that a token was read from, fit for one line.
-use std::alloc::{AllocError, Global};
+use std::fmt;
 
 // Where the next token begins: white space and comments are passed over.
 pub fn first_byte(text: &[u8], from: usize) -> usize {
     let mut comment = false;
-    for at in from..text.len() {
-        match text[at] {
+    for (at, byte) in text.iter().enumerate().skip(from) {
+        match byte {
             10 | 12 | 13 => comment = false,
             0 | 9 | 32 => {}
             b'%' => comment = true,
-            _ => {
-                if !comment {
-                    return at;
-                }
-            }
+            _ if comment => {}
+            _ => return at,
         }
     }
     text.len()
 }
 
-// The bytes from one place to another; one that cannot be printed shows as a point.
-pub fn excerpt(heap: Global, text: &[u8], from: usize, to: usize) -> Result<String, AllocError> {
-    let mut line = String::new(heap);
-    for byte in text.iter().take(to).skip(from) {
-        let shown = match *byte {
-            32..=126 => char::from(*byte),
-            _ => '.',
-        };
-        line.push(shown)?;
+// Bytes of a text as they are printed: one that cannot be shows as a point.
+#[derive(Clone, Copy)]
+pub struct Excerpt<'t>(pub &'t [u8]);
+
+impl fmt::Display for Excerpt<'_> {
+    fn fmt<W: fmt::Write>(&self, f: &mut fmt::Formatter<W>) -> fmt::Result {
+        for byte in self.0 {
+            f.write_char(match byte {
+                32..=126 => char::from(*byte),
+                _ => '.',
+            })?;
+        }
+        Ok(())
     }
-    Ok(line)
 }

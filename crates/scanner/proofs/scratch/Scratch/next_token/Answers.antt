@@ -1,5 +1,4 @@
 use Rattle.std.proofs.Common.{suc, [], length, sym, ap, ◌∙◌, subst}
-use Rattle.names.specs.Table.{model}
 use Rattle.scanner.specs.Laws.{NamesJoin, Taken}
 use Rattle.scanner.specs.Sources.{to_come}
 use Rattle.scanner.specs.Tokens.{Scanned, no_procedures}
@@ -15,9 +14,9 @@ use Rattle.scanner.proofs.scratch.Scratch.next_token.Goals as goal
 
 pub returns : goal.returns
 returns c =
-    let names = model c.args.names.now in
+    let names = c.args.names.now in
     let bs = to_come c.args.source.now in
-    let names' = model c.token.new.names in
+    let names' = c.token.new.names in
     let bs' = to_come c.token.new.source in
     let told = c.token.ensures.reading in
     record {
