@@ -1,55 +1,48 @@
 // cvx cvlit xcheck: an object's executable flag.
 ghost use Rattle.std.specs.Prelude.{◌≡◌, true, false};
 ghost use Rattle.objects.specs.Outcomes.{after, heard};
-ghost use Rattle.stacks.specs.Views.{stacked};
-ghost use Rattle.conversion_operators.specs.Conversions.{top_of, flagged, flag_told};
+ghost use Rattle.conversion_operators.specs.Conversions.{flagged, flag_told};
 
 use objects::fault::Fault;
 use objects::object::Object;
-use operators::reading::truth;
+use operators::reading::operand;
 use stacks::operands::Operands;
 
-// The top operand.
-pub fn top(operands: &Operands) -> Result<Object, Fault>
-    ensures { result ≡ top_of (stacked operands.now) }
+// The top operand with the flag set so.
+fn set_flag(operands: &mut Operands, executable: bool) -> Result<(), Fault>
+    ensures answer { result ≡ heard (flagged executable operands.old) }
+    ensures state { operands.new ≡ after (flagged executable operands.old) operands.old }
 {
-    match operands.peek(0) {
-        Some(object) => Ok(object),
-        None => Err(Fault::StackUnderflow),
-    }
+    let object = operand(operands, 0)?;
+    operands.replace(
+        1,
+        Object {
+            executable,
+            ..object
+        },
+    );
+    Ok(())
 }
 
 pub fn cvx(operands: &mut Operands) -> Result<(), Fault>
-    ensures answer { result ≡ heard (flagged true (stacked operands.old)) }
-    ensures state { stacked operands.new ≡ after (flagged true (stacked operands.old)) (stacked operands.old) }
+    ensures answer { result ≡ heard (flagged true operands.old) }
+    ensures state { operands.new ≡ after (flagged true operands.old) operands.old }
 {
-    let object = top(operands)?;
-    let converted = Object {
-        value: object.value,
-        executable: true,
-    };
-    operands.replace(1, converted);
-    Ok(())
+    set_flag(operands, true)
 }
 
 pub fn cvlit(operands: &mut Operands) -> Result<(), Fault>
-    ensures answer { result ≡ heard (flagged false (stacked operands.old)) }
-    ensures state { stacked operands.new ≡ after (flagged false (stacked operands.old)) (stacked operands.old) }
+    ensures answer { result ≡ heard (flagged false operands.old) }
+    ensures state { operands.new ≡ after (flagged false operands.old) operands.old }
 {
-    let object = top(operands)?;
-    let converted = Object {
-        value: object.value,
-        executable: false,
-    };
-    operands.replace(1, converted);
-    Ok(())
+    set_flag(operands, false)
 }
 
 pub fn xcheck(operands: &mut Operands) -> Result<(), Fault>
-    ensures answer { result ≡ heard (flag_told (stacked operands.old)) }
-    ensures state { stacked operands.new ≡ after (flag_told (stacked operands.old)) (stacked operands.old) }
+    ensures answer { result ≡ heard (flag_told operands.old) }
+    ensures state { operands.new ≡ after (flag_told operands.old) operands.old }
 {
-    let object = top(operands)?;
-    operands.replace(1, truth(object.executable));
+    let object: Object = operand(operands, 0)?;
+    operands.replace(1, Object::from(object.executable));
     Ok(())
 }

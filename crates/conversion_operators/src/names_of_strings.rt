@@ -1,39 +1,21 @@
 // cvn: a string becomes a name.
 ghost use Rattle.std.specs.Prelude.{◌≡◌};
-ghost use Rattle.operators.specs.States.{state_of};
-ghost use Rattle.conversion_operators.specs.Conversions.{string_span, name_made};
+ghost use Rattle.conversion_operators.specs.Conversions.{name_made};
 
-use crate::flags::top;
-use array_operators::text::string_name;
 use keepers::keeper::Keeper;
 use objects::fault::Fault;
-use objects::object::{Object, Span, Value};
+use objects::object::{Object, Value};
 use operators::machine::Machine;
-
-fn string_span(object: Object) -> Result<Span, Fault>
-    ensures { result ≡ string_span object.value }
-{
-    match object.value {
-        Value::String(span) => Ok(span),
-        _ => Err(Fault::TypeCheck),
-    }
-}
+use operators::operand::{Operand, StringSpan};
+use operators::reading::operand;
 
 pub fn cvn<K: Keeper>(machine: &mut Machine<K>) -> Result<(), Fault>
-    ensures answer { result ≡ (name_made (state_of K.Keeper.kept machine.old)).answer }
-    ensures state { state_of K.Keeper.kept machine.new ≡ (name_made (state_of K.Keeper.kept machine.old)).state }
+    ensures answer { result ≡ (name_made machine.old).answer }
+    ensures state { machine.new ≡ (name_made machine.old).state }
 {
-    let object = top(&machine.operands)?;
-    let span = string_span(object)?;
-    match string_name(machine, span) {
-        Ok(number) => {
-            let name = Object {
-                value: Value::Name(number),
-                executable: object.executable,
-            };
-            machine.operands.replace(1, name);
-            Ok(())
-        }
-        Err(fault) => Err(fault),
-    }
+    let object = operand(&machine.operands, 0)?;
+    let StringSpan(string) = StringSpan::from_object(object)?;
+    let value = Value::Name(machine.string_name(string)?);
+    machine.operands.replace(1, Object { value, ..object });
+    Ok(())
 }

@@ -1,25 +1,16 @@
 -- def known: what one dictionary has under a key.
-use Rattle.std.specs.Prelude.{ℕ, Bool, true, false, Some, None, Ok, Err, Option, Result}
-use Rattle.std.specs.List.{slice_get}
+use Rattle.std.specs.Prelude.{ℕ, Ok, Result, is_some}
 use Rattle.objects.specs.Outcomes.{after}
 use Rattle.objects.specs.declared.fault.Fault.{Fault}
-use Rattle.objects.specs.declared.fault.Fault.TheVariants.{StackUnderflow}
 use Rattle.objects.specs.declared.object.Object.{Object}
 use Rattle.memory.specs.Dictionaries.{defined, pair_of}
 use Rattle.memory.specs.declared.key.Key.{Key}
-use Rattle.stacks.specs.Stacked.{Stacked, discarded, replaced, truth}
-use Rattle.operators.specs.Operands.{then}
+use Rattle.objects.specs.Objects.{truth}
+use Rattle.stacks.specs.Stacked.{discarded, replaced}
+use Rattle.operators.specs.Keys.{key_at, key_joined}
+use Rattle.operators.specs.Operands.{then, operand_at, dictionary_at}
 use Rattle.operators.specs.States.{State, with_memory, with_operands}
-use Rattle.dictionary_operators.specs.KeyOperands.{key_at, key_joined}
-use Rattle.dictionary_operators.specs.Open.{current, dictionary_at}
-
-abbrev pub if_there : Option Object → Result Object Fault
-if_there None = Err StackUnderflow
-if_there (Some o) = Ok o
-
--- the n-th operand, of any type
-abbrev pub operand_at : ℕ → Stacked → Result Object Fault
-operand_at n s = if_there (slice_get s.objects n)
+use Rattle.dictionary_operators.specs.Open.{current}
 
 -- key and value go from the operands into a dictionary
 abbrev pub defined_in : ℕ → Key → Object → State → Result State Fault
@@ -30,10 +21,6 @@ abbrev pub key_defined : State → Result State Fault
 key_defined s =
     then (key_at 1 s) (λ k. then (operand_at 0 s.operands) (λ o. then (current s.dictionaries) (λ d.
     defined_in d k o (key_joined 1 s))))
-
-abbrev pub is_some : {A : Type 0} → Option A → Bool
-is_some None = false
-is_some (Some x) = true
 
 -- a dictionary and a key for whether it has the key
 abbrev pub key_known : State → Result State Fault

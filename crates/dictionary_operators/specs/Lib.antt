@@ -1,6 +1,4 @@
-pub mod Changes
 pub mod Entries
-pub mod KeyOperands
 pub mod Open
 pub mod Searches
 pub mod Sizes

@@ -1,5 +1,5 @@
 -- where store load: what the open dictionaries have under a key, from the top down.
-use Rattle.std.specs.Prelude.{ℕ, true, false, Some, None, Ok, Err, Option, Result}
+use Rattle.std.specs.Prelude.{ℕ, true, false, Some, None, Ok, Option, Result, ok_or, option_map}
 use Rattle.objects.specs.declared.fault.Fault.{Fault}
 use Rattle.objects.specs.declared.fault.Fault.TheVariants.{Undefined}
 use Rattle.objects.specs.declared.object.Object.{Object}
@@ -10,13 +10,13 @@ use Rattle.memory.specs.declared.dictionary.Entry.{Entry}
 use Rattle.memory.specs.declared.key.Key.{Key}
 use Rattle.memory.specs.declared.key.Key.TheVariants.{Name, Integer, Boolean}
 use Rattle.names.specs.Names.{operator_at}
-use Rattle.stacks.specs.Stacked.{Stacked, pushed, written, replaced, truth}
-use Rattle.operators.specs.Operands.{then}
+use Rattle.objects.specs.Objects.{truth}
+use Rattle.stacks.specs.Stacked.{Stacked, pushed, written, replaced}
+use Rattle.operators.specs.Keys.{key_at, key_joined}
+use Rattle.operators.specs.Operands.{then, operand_at}
 use Rattle.operators.specs.States.{State, with_operands}
-use Rattle.dictionary_operators.specs.Changes.{dictionary_object}
-use Rattle.dictionary_operators.specs.Entries.{operand_at, defined_in}
-use Rattle.dictionary_operators.specs.KeyOperands.{key_at, key_joined}
-use Rattle.dictionary_operators.specs.Open.{current}
+use Rattle.dictionary_operators.specs.Entries.{defined_in}
+use Rattle.dictionary_operators.specs.Open.{current, dictionary_object}
 
 -- the first match from the top down
 abbrev pub entry_for : Key → State → Option Entry
@@ -40,8 +40,7 @@ abbrev pub operator_object : operator.Operator → Object
 operator_object o = record { value = Operator o; executable = true }
 
 abbrev pub as_object : Option operator.Operator → Option Object
-as_object None = None
-as_object (Some o) = Some (operator_object o)
+as_object o = option_map operator_object o
 
 -- the operator that a key names: only a name does
 abbrev pub key_operator : Key → State → Option Object
@@ -58,8 +57,7 @@ abbrev pub looked_up : Key → State → Option Object
 looked_up k s = value_or_operator (entry_for k s) k s
 
 abbrev pub or_undefined : Option Object → Result Object Fault
-or_undefined None = Err Undefined
-or_undefined (Some o) = Ok o
+or_undefined o = ok_or o Undefined
 
 -- a key for its value
 abbrev pub key_loaded : State → Result State Fault

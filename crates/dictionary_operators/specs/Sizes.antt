@@ -1,13 +1,13 @@
 -- n dict, maxlength.
 use Rattle.std.specs.Prelude.{ℕ, cond, pos, Ok, Err, Result, nat_le}
 use Rattle.objects.specs.declared.fault.Fault.{Fault}
+use Rattle.objects.specs.Objects.{integer}
 use Rattle.objects.specs.declared.fault.Fault.TheVariants.{LimitCheck}
 use Rattle.memory.specs.Dictionaries.{dictionary_made, header_in}
 use Rattle.stacks.specs.Stacked.{Stacked, replaced}
-use Rattle.operators.specs.Operands.{then, integer, natural_at}
+use Rattle.operators.specs.Operands.{then, natural_at, dictionary_at}
 use Rattle.operators.specs.States.{State, with_memory, with_operands}
-use Rattle.dictionary_operators.specs.Changes.{dictionary_object}
-use Rattle.dictionary_operators.specs.Open.{dictionary_at}
+use Rattle.dictionary_operators.specs.Open.{dictionary_object}
 
 -- a dictionary is for at most 1,000 entries
 abbrev pub limited : ℕ → Result ℕ Fault

@@ -1,92 +1,73 @@
 // currentdict countdictstack userdict begin end: the open dictionaries.
 ghost use Rattle.std.specs.Prelude.{◌≡◌};
 ghost use Rattle.objects.specs.Outcomes.{after, heard};
-ghost use Rattle.operators.specs.States.{state_of};
-ghost use Rattle.stacks.specs.Entries.{entries};
-ghost use Rattle.stacks.specs.Views.{stacked};
-ghost use Rattle.dictionary_operators.specs.Open.{current, bottom, current_pushed, user_pushed, open_counted, dictionary_at, begun, ended};
+ghost use Rattle.dictionary_operators.specs.Open.{current, bottom, current_pushed, user_pushed, open_counted, begun, ended};
 
-use crate::pushing::{dictionary_object, push};
 use keepers::keeper::Keeper;
 use objects::fault::Fault;
-use objects::object::Value;
-use operators::machine::Machine;
-use operators::reading::integer;
-use stacks::operands::Operands;
-use stacks::stack::Stack;
+use objects::object::{Object, Value};
+use operators::machine::{Dictionaries, Machine};
+use operators::operand::Dictionary;
+use operators::reading::operand;
 
 // The top dictionary. (A machine that is set up has always one open.)
-pub fn current(dictionaries: &Stack<u16, 20>) -> Result<u16, Fault>
-    ensures { result ≡ current (entries dictionaries.now) }
+pub fn current(dictionaries: &Dictionaries) -> Result<u16, Fault>
+    ensures { result ≡ current dictionaries.now }
 {
-    match dictionaries.peek(0) {
-        Some(dictionary) => Ok(dictionary),
-        None => Err(Fault::DictStackUnderflow),
-    }
+    dictionaries.peek(0).ok_or(Fault::DictStackUnderflow)
 }
 
 // The lowest dictionary: userdict.
-fn bottom(dictionaries: &Stack<u16, 20>) -> Result<u16, Fault>
-    ensures { result ≡ bottom (entries dictionaries.now) }
+fn bottom(dictionaries: &Dictionaries) -> Result<u16, Fault>
+    ensures { result ≡ bottom dictionaries.now }
 {
-    match dictionaries.peek(dictionaries.depth().saturating_sub(1)) {
-        Some(dictionary) => Ok(dictionary),
-        None => Err(Fault::DictStackUnderflow),
-    }
+    dictionaries
+        .lowest_first()
+        .first()
+        .copied()
+        .ok_or(Fault::DictStackUnderflow)
 }
 
 pub fn currentdict<K: Keeper>(machine: &mut Machine<K>) -> Result<(), Fault>
-    ensures answer { result ≡ heard (current_pushed (state_of K.Keeper.kept machine.old)) }
-    ensures state { state_of K.Keeper.kept machine.new ≡ after (current_pushed (state_of K.Keeper.kept machine.old)) (state_of K.Keeper.kept machine.old) }
+    ensures answer { result ≡ heard (current_pushed machine.old) }
+    ensures state { machine.new ≡ after (current_pushed machine.old) machine.old }
 {
     let dictionary = current(&machine.dictionaries)?;
-    push(machine, dictionary_object(dictionary))
+    machine.push(Object::literal(Value::Dictionary(dictionary)))
 }
 
 pub fn userdict<K: Keeper>(machine: &mut Machine<K>) -> Result<(), Fault>
-    ensures answer { result ≡ heard (user_pushed (state_of K.Keeper.kept machine.old)) }
-    ensures state { state_of K.Keeper.kept machine.new ≡ after (user_pushed (state_of K.Keeper.kept machine.old)) (state_of K.Keeper.kept machine.old) }
+    ensures answer { result ≡ heard (user_pushed machine.old) }
+    ensures state { machine.new ≡ after (user_pushed machine.old) machine.old }
 {
     let dictionary = bottom(&machine.dictionaries)?;
-    push(machine, dictionary_object(dictionary))
+    machine.push(Object::literal(Value::Dictionary(dictionary)))
 }
 
 pub fn countdictstack<K: Keeper>(machine: &mut Machine<K>) -> Result<(), Fault>
-    ensures answer { result ≡ heard (open_counted (state_of K.Keeper.kept machine.old)) }
-    ensures state { state_of K.Keeper.kept machine.new ≡ after (open_counted (state_of K.Keeper.kept machine.old)) (state_of K.Keeper.kept machine.old) }
+    ensures answer { result ≡ heard (open_counted machine.old) }
+    ensures state { machine.new ≡ after (open_counted machine.old) machine.old }
 {
     let depth = machine.dictionaries.depth();
-    push(machine, integer(depth as i32))
-}
-
-// The n-th operand from the top, as a dictionary.
-pub fn dictionary_at(operands: &Operands, n: usize) -> Result<u16, Fault>
-    ensures { result ≡ dictionary_at n (stacked operands.now) }
-{
-    let Some(object) = operands.peek(n) else {
-        return Err(Fault::StackUnderflow);
-    };
-    match object.value {
-        Value::Dictionary(start) => Ok(start),
-        _ => Err(Fault::TypeCheck),
-    }
+    machine.push(Object::from(depth as i32))
 }
 
 pub fn begin<K: Keeper>(machine: &mut Machine<K>) -> Result<(), Fault>
-    ensures answer { result ≡ heard (begun (state_of K.Keeper.kept machine.old)) }
-    ensures state { state_of K.Keeper.kept machine.new ≡ after (begun (state_of K.Keeper.kept machine.old)) (state_of K.Keeper.kept machine.old) }
+    ensures answer { result ≡ heard (begun machine.old) }
+    ensures state { machine.new ≡ after (begun machine.old) machine.old }
 {
-    let dictionary = dictionary_at(&machine.operands, 0)?;
-    if !machine.dictionaries.push(dictionary) {
-        return Err(Fault::DictStackOverflow);
-    }
+    let Dictionary(dictionary) = operand(&machine.operands, 0)?;
+    machine
+        .dictionaries
+        .push(dictionary)
+        .map_err(|_| Fault::DictStackOverflow)?;
     machine.operands.discard(1);
     Ok(())
 }
 
 pub fn end<K: Keeper>(machine: &mut Machine<K>) -> Result<(), Fault>
-    ensures answer { result ≡ heard (ended (state_of K.Keeper.kept machine.old)) }
-    ensures state { state_of K.Keeper.kept machine.new ≡ after (ended (state_of K.Keeper.kept machine.old)) (state_of K.Keeper.kept machine.old) }
+    ensures answer { result ≡ heard (ended machine.old) }
+    ensures state { machine.new ≡ after (ended machine.old) machine.old }
 {
     if machine.dictionaries.depth() <= 1 {
         return Err(Fault::DictStackUnderflow);

@@ -1,9 +1,10 @@
 -- add sub mul idiv mod neg abs.
 use Rattle.std.specs.Prelude.{cond, ℤ, pos, ◌+ℤ◌, ◌-ℤ◌, ◌*ℤ◌, neg_ℤ, Ok, Err, Result, ◌==◌, int_div, int_rem, unsigned_abs}
+use Rattle.objects.specs.Objects.{integer}
 use Rattle.objects.specs.declared.fault.Fault.{Fault}
 use Rattle.objects.specs.declared.fault.Fault.TheVariants.{UndefinedResult}
 use Rattle.stacks.specs.Stacked.{Stacked, replaced}
-use Rattle.operators.specs.Operands.{then, integer, integer_at, two_integers, in_range}
+use Rattle.operators.specs.Operands.{then, integer_at, two_integers, in_range}
 
 -- two integers for their result
 abbrev pub binary : (ℤ → ℤ → Result ℤ Fault) → Stacked → Result Stacked Fault

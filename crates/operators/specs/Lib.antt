@@ -1,6 +1,10 @@
 pub mod Arithmetic
 pub mod Arrays
+pub mod Keys
 pub mod Operands
+pub mod Outcomes
 pub mod Relations
 pub mod Stack
 pub mod States
+pub mod Steps
+pub mod Texts

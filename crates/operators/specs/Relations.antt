@@ -1,12 +1,18 @@
 -- gt ge lt le on integers; and or xor not on booleans; true false null.
 use Rattle.std.specs.Prelude.{Bool, true, false, not, ◌&&◌, ◌||◌, ℤ, Ok, Result, int_lt}
 use Rattle.objects.specs.declared.fault.Fault.{Fault}
-use Rattle.stacks.specs.Stacked.{Stacked, truth, replaced}
-use Rattle.operators.specs.Operands.{then, two_integers, boolean_at, two_booleans}
+use Rattle.objects.specs.declared.object.Object.{Object}
+use Rattle.objects.specs.Objects.{truth}
+use Rattle.stacks.specs.Stacked.{Stacked, replaced}
+use Rattle.operators.specs.Operands.{then, read_two, as_integer, as_boolean, boolean_at}
+
+-- two operands of one type, read so, for whether they stand so
+abbrev pub told : {A : Type 0} → (Object → Result A Fault) → (A → A → Bool) → Stacked → Result Stacked Fault
+told read f s = then (read_two read s) (λ p. Ok (replaced 2 (truth (f p.0 p.1)) s))
 
 -- two integers for whether they stand so
 abbrev pub compared : (ℤ → ℤ → Bool) → Stacked → Result Stacked Fault
-compared f s = then (two_integers s) (λ p. Ok (replaced 2 (truth (f p.0 p.1)) s))
+compared = told as_integer
 
 abbrev pub above : ℤ → ℤ → Bool
 above a b = int_lt b a
@@ -22,7 +28,7 @@ at_most_as a b = not (int_lt b a)
 
 -- two booleans for one
 abbrev pub joined : (Bool → Bool → Bool) → Stacked → Result Stacked Fault
-joined f s = then (two_booleans s) (λ p. Ok (replaced 2 (truth (f p.0 p.1)) s))
+joined = told as_boolean
 
 abbrev pub both : Bool → Bool → Bool
 both a b = a && b

@@ -1,13 +1,14 @@
 -- pop exch dup copy index roll clear count mark cleartomark counttomark.
-use Rattle.std.specs.Prelude.{ℕ, ◌+◌, false, cond, length, ℤ, pos, Some, None, Ok, Err, Option, Result, nat_le, unsigned_abs}
+use Rattle.std.specs.Prelude.{ℕ, ◌+◌, cond, length, ℤ, pos, Ok, Err, Option, Result, ok_or, nat_le, unsigned_abs}
 use Rattle.std.specs.List.{slice_get}
 use Rattle.std.specs.Int.{int_rem_euclid}
+use Rattle.objects.specs.Objects.{literal, integer}
 use Rattle.objects.specs.declared.fault.Fault.{Fault}
 use Rattle.objects.specs.declared.fault.Fault.TheVariants.{RangeCheck, UnmatchedMark}
 use Rattle.objects.specs.declared.object.Object.{Object}
 use Rattle.objects.specs.declared.object.Value.TheVariants.{Mark}
 use Rattle.stacks.specs.Stacked.{Stacked, pushed, discarded, replaced, copied_top, rolled, count_to_mark}
-use Rattle.operators.specs.Operands.{then, integer, at_least, two_integers, natural, natural_at}
+use Rattle.operators.specs.Operands.{then, at_least, two_integers, natural, natural_at}
 
 abbrev pub popped : Stacked → Result Stacked Fault
 popped s = then (at_least 1 s) (λ _. Ok (discarded 1 s))
@@ -23,8 +24,7 @@ abbrev pub copied : Stacked → Result Stacked Fault
 copied s = then (natural_at 0 s) (λ n. copied_top n (discarded 1 s))
 
 abbrev found : Option Object → Result Object Fault
-found None = Err RangeCheck
-found (Some o) = Ok o
+found o = ok_or o RangeCheck
 
 -- n gives way to the n-th of those below it
 abbrev pub indexed : Stacked → Result Stacked Fault
@@ -41,11 +41,10 @@ abbrev pub counted : Stacked → Result Stacked Fault
 counted s = pushed (integer (pos (length s.objects))) s
 
 abbrev pub mark : Object
-mark = record { value = Mark; executable = false }
+mark = literal Mark
 
 abbrev or_unmatched : Option ℕ → Result ℕ Fault
-or_unmatched None = Err UnmatchedMark
-or_unmatched (Some n) = Ok n
+or_unmatched n = ok_or n UnmatchedMark
 
 abbrev pub cleared_to_mark : Stacked → Result Stacked Fault
 cleared_to_mark s = then (or_unmatched (count_to_mark s)) (λ n. Ok (discarded (n + 1) s))

@@ -1,150 +1,101 @@
 // add sub mul idiv mod neg abs.
-ghost use Rattle.std.specs.Prelude.{◌≡◌};
+ghost use Rattle.std.specs.Prelude.{◌≡◌, ℤ, Result, ok_or};
 ghost use Rattle.objects.specs.Outcomes.{after, heard};
+ghost use Rattle.objects.specs.declared.fault.Fault.{Fault};
+ghost use Rattle.objects.specs.declared.fault.Fault.TheVariants.{UndefinedResult};
 ghost use Rattle.operators.specs.Arithmetic.{binary, unary, sum, difference, product, quotient, remainder, opposite, magnitude};
-ghost use Rattle.stacks.specs.Views.{stacked};
+ghost use Rattle.operators.specs.Steps.{ComputesOne, ComputesTwo, Follows};
 
-use crate::reading::{integer, integer_at, two_integers};
+use crate::reading::{operand, two};
 use objects::fault::Fault;
+use objects::object::Object;
 use stacks::operands::Operands;
 
-// The exact sum, or undefinedresult outside the integers.
-fn sum(a: i32, b: i32) -> Result<i32, Fault>
-    ensures { result ≡ sum a b }
+// Two integers give way to what a step makes of them; undefinedresult where it makes nothing.
+fn binary<F: FnOnce(i32, i32) -> Option<i32>>(operands: &mut Operands, step: F) -> Result<(), Fault>
+    requires { F.IsAlwaysCallable step }
+    ensures { (f : ℤ → ℤ → Result ℤ Fault) → ComputesTwo (F.post step) f → Follows (binary f operands.old) operands.old result operands.new }
 {
-    match a.checked_add(b) {
-        Some(z) => Ok(z),
-        None => Err(Fault::UndefinedResult),
-    }
+    let (a, b) = two(operands)?;
+    let z = step(a, b).ok_or(Fault::UndefinedResult)?;
+    operands.replace(2, Object::from(z));
+    Ok(())
 }
 
-// The exact difference, or undefinedresult.
-fn difference(a: i32, b: i32) -> Result<i32, Fault>
-    ensures { result ≡ difference a b }
+// One integer gives way to what a step makes of it; undefinedresult where it makes nothing.
+fn unary<F: FnOnce(i32) -> Option<i32>>(operands: &mut Operands, step: F) -> Result<(), Fault>
+    requires { F.IsAlwaysCallable step }
+    ensures { (f : ℤ → Result ℤ Fault) → ComputesOne (F.post step) f → Follows (unary f operands.old) operands.old result operands.new }
 {
-    match a.checked_sub(b) {
-        Some(z) => Ok(z),
-        None => Err(Fault::UndefinedResult),
-    }
+    let a = operand(operands, 0)?;
+    let z = step(a).ok_or(Fault::UndefinedResult)?;
+    operands.replace(1, Object::from(z));
+    Ok(())
 }
 
-// The exact product, or undefinedresult.
-fn product(a: i32, b: i32) -> Result<i32, Fault>
-    ensures { result ≡ product a b }
+// The quotient truncated toward zero; none for a divisor of 0 and for the lowest integer by -1.
+fn quotient(a: i32, b: i32) -> Option<i32>
+    ensures { ok_or result UndefinedResult ≡ quotient a b }
 {
-    match a.checked_mul(b) {
-        Some(z) => Ok(z),
-        None => Err(Fault::UndefinedResult),
-    }
+    a.checked_div(b)
 }
 
-// The quotient truncated toward zero; undefinedresult for a divisor of 0 and for the lowest integer by -1.
-fn quotient(a: i32, b: i32) -> Result<i32, Fault>
-    ensures { result ≡ quotient a b }
-{
-    match a.checked_div(b) {
-        Some(z) => Ok(z),
-        None => Err(Fault::UndefinedResult),
-    }
-}
-
-// The remainder with the sign of the dividend; undefinedresult for a divisor of 0.
-fn remainder(a: i32, b: i32) -> Result<i32, Fault>
-    ensures { result ≡ remainder a b }
+// The remainder with the sign of the dividend; none for a divisor of 0.
+fn remainder(a: i32, b: i32) -> Option<i32>
+    ensures { ok_or result UndefinedResult ≡ remainder a b }
 {
     match b {
-        0 => Err(Fault::UndefinedResult),
-        -1 => Ok(0),
-        _ => Ok(a % b),
-    }
-}
-
-// The integer with the other sign; undefinedresult for the lowest one.
-fn opposite(a: i32) -> Result<i32, Fault>
-    ensures { result ≡ opposite a }
-{
-    match a.checked_neg() {
-        Some(z) => Ok(z),
-        None => Err(Fault::UndefinedResult),
-    }
-}
-
-// The integer without its sign; undefinedresult for the lowest one.
-fn magnitude(a: i32) -> Result<i32, Fault>
-    ensures { result ≡ magnitude a }
-{
-    match a.checked_abs() {
-        Some(z) => Ok(z),
-        None => Err(Fault::UndefinedResult),
+        0 => None,
+        -1 => Some(0),
+        _ => Some(a % b),
     }
 }
 
 pub fn add(operands: &mut Operands) -> Result<(), Fault>
-    ensures answer { result ≡ heard (binary sum (stacked operands.old)) }
-    ensures state { stacked operands.new ≡ after (binary sum (stacked operands.old)) (stacked operands.old) }
+    ensures answer { result ≡ heard (binary sum operands.old) }
+    ensures state { operands.new ≡ after (binary sum operands.old) operands.old }
 {
-    let (a, b) = two_integers(operands)?;
-    let z = sum(a, b)?;
-    operands.replace(2, integer(z));
-    Ok(())
+    binary(operands, |a, b| a.checked_add(b))
 }
 
 pub fn sub(operands: &mut Operands) -> Result<(), Fault>
-    ensures answer { result ≡ heard (binary difference (stacked operands.old)) }
-    ensures state { stacked operands.new ≡ after (binary difference (stacked operands.old)) (stacked operands.old) }
+    ensures answer { result ≡ heard (binary difference operands.old) }
+    ensures state { operands.new ≡ after (binary difference operands.old) operands.old }
 {
-    let (a, b) = two_integers(operands)?;
-    let z = difference(a, b)?;
-    operands.replace(2, integer(z));
-    Ok(())
+    binary(operands, |a, b| a.checked_sub(b))
 }
 
 pub fn mul(operands: &mut Operands) -> Result<(), Fault>
-    ensures answer { result ≡ heard (binary product (stacked operands.old)) }
-    ensures state { stacked operands.new ≡ after (binary product (stacked operands.old)) (stacked operands.old) }
+    ensures answer { result ≡ heard (binary product operands.old) }
+    ensures state { operands.new ≡ after (binary product operands.old) operands.old }
 {
-    let (a, b) = two_integers(operands)?;
-    let z = product(a, b)?;
-    operands.replace(2, integer(z));
-    Ok(())
+    binary(operands, |a, b| a.checked_mul(b))
 }
 
 pub fn idiv(operands: &mut Operands) -> Result<(), Fault>
-    ensures answer { result ≡ heard (binary quotient (stacked operands.old)) }
-    ensures state { stacked operands.new ≡ after (binary quotient (stacked operands.old)) (stacked operands.old) }
+    ensures answer { result ≡ heard (binary quotient operands.old) }
+    ensures state { operands.new ≡ after (binary quotient operands.old) operands.old }
 {
-    let (a, b) = two_integers(operands)?;
-    let z = quotient(a, b)?;
-    operands.replace(2, integer(z));
-    Ok(())
+    binary(operands, quotient)
 }
 
 pub fn modulo(operands: &mut Operands) -> Result<(), Fault>
-    ensures answer { result ≡ heard (binary remainder (stacked operands.old)) }
-    ensures state { stacked operands.new ≡ after (binary remainder (stacked operands.old)) (stacked operands.old) }
+    ensures answer { result ≡ heard (binary remainder operands.old) }
+    ensures state { operands.new ≡ after (binary remainder operands.old) operands.old }
 {
-    let (a, b) = two_integers(operands)?;
-    let z = remainder(a, b)?;
-    operands.replace(2, integer(z));
-    Ok(())
+    binary(operands, remainder)
 }
 
 pub fn neg(operands: &mut Operands) -> Result<(), Fault>
-    ensures answer { result ≡ heard (unary opposite (stacked operands.old)) }
-    ensures state { stacked operands.new ≡ after (unary opposite (stacked operands.old)) (stacked operands.old) }
+    ensures answer { result ≡ heard (unary opposite operands.old) }
+    ensures state { operands.new ≡ after (unary opposite operands.old) operands.old }
 {
-    let a = integer_at(operands, 0)?;
-    let z = opposite(a)?;
-    operands.replace(1, integer(z));
-    Ok(())
+    unary(operands, |a| a.checked_neg())
 }
 
 pub fn abs(operands: &mut Operands) -> Result<(), Fault>
-    ensures answer { result ≡ heard (unary magnitude (stacked operands.old)) }
-    ensures state { stacked operands.new ≡ after (unary magnitude (stacked operands.old)) (stacked operands.old) }
+    ensures answer { result ≡ heard (unary magnitude operands.old) }
+    ensures state { operands.new ≡ after (unary magnitude operands.old) operands.old }
 {
-    let a = integer_at(operands, 0)?;
-    let z = magnitude(a)?;
-    operands.replace(1, integer(z));
-    Ok(())
+    unary(operands, |a| a.checked_abs())
 }

@@ -19,6 +19,7 @@ pub enum Frame {
     Loop {
         body: Span,
     },
+    // Kept: a variant for arrays and one for strings, since a frame says what it goes over; one variant with a kind would be taken apart at each step.
     ForallArray {
         left: Span,
         whole: Span,

@@ -3,16 +3,15 @@ ghost use Rattle.std.specs.Prelude.{◌≡◌, pos, ◌<ℤ◌};
 ghost use Rattle.objects.specs.Outcomes.{after, heard};
 ghost use Rattle.operators.specs.Stack.{popped, exchanged, duplicated, copied, indexed, rolled_by, turns, counted, mark, cleared_to_mark, counted_to_mark};
 ghost use Rattle.stacks.specs.Stacked.{cleared, pushed};
-ghost use Rattle.stacks.specs.Views.{stacked};
 
-use crate::reading::{at_least, integer, natural, natural_at, two_integers};
+use crate::reading::{at_least, natural, natural_at, two};
 use objects::fault::Fault;
 use objects::object::{Object, Value};
 use stacks::operands::Operands;
 
 pub fn pop(operands: &mut Operands) -> Result<(), Fault>
-    ensures answer { result ≡ heard (popped (stacked operands.old)) }
-    ensures state { stacked operands.new ≡ after (popped (stacked operands.old)) (stacked operands.old) }
+    ensures answer { result ≡ heard (popped operands.old) }
+    ensures state { operands.new ≡ after (popped operands.old) operands.old }
 {
     at_least(operands, 1)?;
     operands.discard(1);
@@ -20,8 +19,8 @@ pub fn pop(operands: &mut Operands) -> Result<(), Fault>
 }
 
 pub fn exch(operands: &mut Operands) -> Result<(), Fault>
-    ensures answer { result ≡ heard (exchanged (stacked operands.old)) }
-    ensures state { stacked operands.new ≡ after (exchanged (stacked operands.old)) (stacked operands.old) }
+    ensures answer { result ≡ heard (exchanged operands.old) }
+    ensures state { operands.new ≡ after (exchanged operands.old) operands.old }
 {
     at_least(operands, 2)?;
     operands.roll(2, 1);
@@ -29,16 +28,16 @@ pub fn exch(operands: &mut Operands) -> Result<(), Fault>
 }
 
 pub fn dup(operands: &mut Operands) -> Result<(), Fault>
-    ensures answer { result ≡ heard (duplicated (stacked operands.old)) }
-    ensures state { stacked operands.new ≡ after (duplicated (stacked operands.old)) (stacked operands.old) }
+    ensures answer { result ≡ heard (duplicated operands.old) }
+    ensures state { operands.new ≡ after (duplicated operands.old) operands.old }
 {
     at_least(operands, 1)?;
     operands.copy_top(1)
 }
 
 pub fn copy(operands: &mut Operands) -> Result<(), Fault>
-    ensures answer { result ≡ heard (copied (stacked operands.old)) }
-    ensures state { stacked operands.new ≡ after (copied (stacked operands.old)) (stacked operands.old) }
+    ensures answer { result ≡ heard (copied operands.old) }
+    ensures state { operands.new ≡ after (copied operands.old) operands.old }
 {
     let n = natural_at(operands, 0)? as usize;
     if n + 1 > operands.depth() {
@@ -52,13 +51,11 @@ pub fn copy(operands: &mut Operands) -> Result<(), Fault>
 }
 
 pub fn index(operands: &mut Operands) -> Result<(), Fault>
-    ensures answer { result ≡ heard (indexed (stacked operands.old)) }
-    ensures state { stacked operands.new ≡ after (indexed (stacked operands.old)) (stacked operands.old) }
+    ensures answer { result ≡ heard (indexed operands.old) }
+    ensures state { operands.new ≡ after (indexed operands.old) operands.old }
 {
     let n = natural_at(operands, 0)? as usize;
-    let Some(object) = operands.peek(n + 1) else {
-        return Err(Fault::RangeCheck);
-    };
+    let object = operands.peek(n + 1).ok_or(Fault::RangeCheck)?;
     operands.replace(1, object);
     Ok(())
 }
@@ -72,10 +69,10 @@ fn turns(n: i32, j: i32) -> usize
 }
 
 pub fn roll(operands: &mut Operands) -> Result<(), Fault>
-    ensures answer { result ≡ heard (rolled_by (stacked operands.old)) }
-    ensures state { stacked operands.new ≡ after (rolled_by (stacked operands.old)) (stacked operands.old) }
+    ensures answer { result ≡ heard (rolled_by operands.old) }
+    ensures state { operands.new ≡ after (rolled_by operands.old) operands.old }
 {
-    let (n, j) = two_integers(operands)?;
+    let (n, j) = two(operands)?;
     let group = natural(n)? as usize;
     if group + 2 > operands.depth() {
         return Err(Fault::RangeCheck);
@@ -88,47 +85,39 @@ pub fn roll(operands: &mut Operands) -> Result<(), Fault>
 }
 
 pub fn count(operands: &mut Operands) -> Result<(), Fault>
-    ensures answer { result ≡ heard (counted (stacked operands.old)) }
-    ensures state { stacked operands.new ≡ after (counted (stacked operands.old)) (stacked operands.old) }
+    ensures answer { result ≡ heard (counted operands.old) }
+    ensures state { operands.new ≡ after (counted operands.old) operands.old }
 {
     let depth = operands.depth();
-    operands.push(integer(depth as i32))
+    operands.push(Object::from(depth as i32))
 }
 
 pub fn clear(operands: &mut Operands)
-    ensures { stacked operands.new ≡ cleared (stacked operands.old) }
+    ensures { operands.new ≡ cleared operands.old }
 {
     operands.clear();
 }
 
 pub fn mark(operands: &mut Operands) -> Result<(), Fault>
-    ensures answer { result ≡ heard (pushed mark (stacked operands.old)) }
-    ensures state { stacked operands.new ≡ after (pushed mark (stacked operands.old)) (stacked operands.old) }
+    ensures answer { result ≡ heard (pushed mark operands.old) }
+    ensures state { operands.new ≡ after (pushed mark operands.old) operands.old }
 {
-    let mark = Object {
-        value: Value::Mark,
-        executable: false,
-    };
-    operands.push(mark)
+    operands.push(Object::literal(Value::Mark))
 }
 
 pub fn cleartomark(operands: &mut Operands) -> Result<(), Fault>
-    ensures answer { result ≡ heard (cleared_to_mark (stacked operands.old)) }
-    ensures state { stacked operands.new ≡ after (cleared_to_mark (stacked operands.old)) (stacked operands.old) }
+    ensures answer { result ≡ heard (cleared_to_mark operands.old) }
+    ensures state { operands.new ≡ after (cleared_to_mark operands.old) operands.old }
 {
-    let Some(n) = operands.count_to_mark() else {
-        return Err(Fault::UnmatchedMark);
-    };
+    let n = operands.count_to_mark().ok_or(Fault::UnmatchedMark)?;
     operands.discard(n + 1);
     Ok(())
 }
 
 pub fn counttomark(operands: &mut Operands) -> Result<(), Fault>
-    ensures answer { result ≡ heard (counted_to_mark (stacked operands.old)) }
-    ensures state { stacked operands.new ≡ after (counted_to_mark (stacked operands.old)) (stacked operands.old) }
+    ensures answer { result ≡ heard (counted_to_mark operands.old) }
+    ensures state { operands.new ≡ after (counted_to_mark operands.old) operands.old }
 {
-    let Some(n) = operands.count_to_mark() else {
-        return Err(Fault::UnmatchedMark);
-    };
-    operands.push(integer(n as i32))
+    let n = operands.count_to_mark().ok_or(Fault::UnmatchedMark)?;
+    operands.push(Object::from(n as i32))
 }

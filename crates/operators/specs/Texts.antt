@@ -1,0 +1,27 @@
+-- The bytes of a string, and the name that they become.
+use Rattle.std.specs.Prelude.{ℕ, zero, suc, ◌+◌, cond, List, [], ◌∷◌, Err, Result, nat_le, slice_index}
+use Rattle.objects.specs.declared.fault.Fault.{Fault}
+use Rattle.objects.specs.declared.fault.Fault.TheVariants.{LimitCheck}
+use Rattle.objects.specs.declared.object.Span.{Span}
+use Rattle.memory.specs.Memories.{InUse}
+use Rattle.names.specs.Names.{join_answer, names_joined}
+use Rattle.operators.specs.States.{State, with_names}
+
+abbrev pub byte_in : InUse → ℕ → ℕ
+byte_in m i = slice_index m.kept.bytes i
+
+-- n bytes from a place on
+unfoldable pub bytes_from : ℕ → ℕ → InUse → List ℕ
+bytes_from at zero m = []
+bytes_from at (suc n) m = byte_in m at ∷ bytes_from (at + 1) n m
+
+abbrev pub text_of : Span → InUse → List ℕ
+text_of a m = bytes_from a.start a.len m
+
+-- the number of the name with a string's bytes: a name has at most 128
+abbrev pub string_name : Span → State → Result ℕ Fault
+string_name a s = cond (nat_le a.len 128) (join_answer (text_of a s.memory) s.names) (Err LimitCheck)
+
+-- what is left when a string's bytes have joined the names
+abbrev pub string_joined : Span → State → State
+string_joined a s = cond (nat_le a.len 128) (with_names (names_joined (text_of a s.memory) s.names) s) s
