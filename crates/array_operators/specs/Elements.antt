@@ -1,5 +1,6 @@
 -- get and put.
 use Rattle.std.specs.Prelude.{pos, Ok, Result}
+use Rattle.objects.specs.Objects.{integer}
 use Rattle.objects.specs.declared.fault.Fault.{Fault}
 use Rattle.objects.specs.declared.fault.Fault.TheVariants.{TypeCheck}
 use Rattle.objects.specs.declared.object.Span.{Span}
@@ -8,24 +9,22 @@ use Rattle.objects.specs.declared.object.Value.TheVariants.{Null, Integer, Boole
 use Rattle.memory.specs.Dictionaries.{slot_in}
 use Rattle.memory.specs.Memories.{with_slot, with_byte}
 use Rattle.stacks.specs.Stacked.{replaced, discarded}
-use Rattle.operators.specs.Operands.{then, integer, at_least, integer_at}
+use Rattle.operators.specs.Operands.{then, at_least, operand_at, integer_at}
 use Rattle.operators.specs.States.{State, with_memory, with_operands}
-use Rattle.array_operators.specs.Indices.{operand_at, place_in, byte_value}
+use Rattle.array_operators.specs.Indices.{place_in, place_at, byte_value}
 use Rattle.array_operators.specs.Entries.{value_got, value_put}
-use Rattle.array_operators.specs.Outcomes.{Outcome, refused, done, go_on}
-use Rattle.array_operators.specs.Texts.{byte_in}
+use Rattle.operators.specs.Outcomes.{Outcome, refused, done, go_on}
+use Rattle.operators.specs.Texts.{byte_in}
 
 -- array and index give way to the element
 abbrev pub element_got : Span → State → Result State Fault
 element_got a s =
-    then (integer_at 0 s.operands) (λ z. then (place_in a z) (λ i.
-    Ok (with_operands (replaced 2 (slot_in s.memory i) s.operands) s)))
+    then (place_at 0 a s.operands) (λ i. Ok (with_operands (replaced 2 (slot_in s.memory i) s.operands) s))
 
 -- string and index give way to the byte
 abbrev pub byte_got : Span → State → Result State Fault
 byte_got a s =
-    then (integer_at 0 s.operands) (λ z. then (place_in a z) (λ i.
-    Ok (with_operands (replaced 2 (integer (pos (byte_in s.memory i))) s.operands) s)))
+    then (place_at 0 a s.operands) (λ i. Ok (with_operands (replaced 2 (integer (pos (byte_in s.memory i))) s.operands) s))
 
 abbrev pub got_from : Value → State → Outcome
 got_from Null s = refused TypeCheck s
@@ -46,8 +45,8 @@ got s = go_on s (at_least 2 s.operands) (λ _. go_on s (operand_at 1 s.operands)
 -- the element becomes the value, and the three operands go
 abbrev pub element_put : Span → State → Result State Fault
 element_put a s =
-    then (integer_at 1 s.operands) (λ z. then (place_in a z) (λ i. then (operand_at 0 s.operands) (λ o.
-    Ok (with_operands (discarded 3 s.operands) (with_memory (with_slot i o s.memory) s)))))
+    then (place_at 1 a s.operands) (λ i. then (operand_at 0 s.operands) (λ o.
+    Ok (with_operands (discarded 3 s.operands) (with_memory (with_slot i o s.memory) s))))
 
 abbrev pub byte_put : Span → State → Result State Fault
 byte_put a s =

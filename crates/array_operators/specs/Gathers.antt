@@ -1,5 +1,5 @@
 -- ]
-use Rattle.std.specs.Prelude.{ℕ, ◌+◌, Some, None, Ok, Err, Option, Result}
+use Rattle.std.specs.Prelude.{◌+◌, Ok, Result, ok_or}
 use Rattle.objects.specs.declared.fault.Fault.{Fault}
 use Rattle.objects.specs.declared.fault.Fault.TheVariants.{UnmatchedMark}
 use Rattle.memory.specs.Memories.{take_slots}
@@ -9,12 +9,8 @@ use Rattle.operators.specs.Operands.{then}
 use Rattle.operators.specs.States.{State, with_memory, with_operands}
 use Rattle.array_operators.specs.Stores.{stored}
 
-abbrev pub or_unmatched : Option ℕ → Result ℕ Fault
-or_unmatched None = Err UnmatchedMark
-or_unmatched (Some n) = Ok n
-
 -- the operands above the topmost mark become the elements of a new array, the lowest first; they and the mark give way to it
 abbrev pub gathered : State → Result State Fault
 gathered s =
-    then (or_unmatched (count_to_mark s.operands)) (λ n. then (take_slots n s.memory) (λ m.
+    then (ok_or (count_to_mark s.operands) UnmatchedMark) (λ n. then (take_slots n s.memory) (λ m.
     Ok (with_operands (replaced (n + 1) (array_object s.memory.slot_top n) s.operands) (with_memory (stored 0 s.memory.slot_top n s.operands.objects m) s))))

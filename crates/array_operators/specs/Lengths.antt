@@ -1,23 +1,20 @@
 -- length.
-use Rattle.std.specs.Prelude.{ℕ, List, length, pos, Some, None, Ok, Err, Option, Result}
+use Rattle.std.specs.Prelude.{ℕ, List, [], length, pos, Ok, Err, Result}
+use Rattle.std.specs.Prelude.{unwrap_or}
 use Rattle.std.specs.List.{slice_get}
+use Rattle.objects.specs.Objects.{integer}
 use Rattle.objects.specs.declared.fault.Fault.{Fault}
 use Rattle.objects.specs.declared.fault.Fault.TheVariants.{TypeCheck}
 use Rattle.objects.specs.declared.object.Value.{Value}
 use Rattle.objects.specs.declared.object.Value.TheVariants.{Null, Integer, Boolean, Mark, Name, Operator, Array, String, Dictionary, Save, Header}
 use Rattle.memory.specs.Dictionaries.{header_in}
 use Rattle.stacks.specs.Stacked.{replaced}
-use Rattle.operators.specs.Operands.{then, integer}
+use Rattle.operators.specs.Operands.{then, operand_at}
 use Rattle.operators.specs.States.{State, with_operands}
-use Rattle.array_operators.specs.Indices.{operand_at}
 
 -- a number that no name has counts as an empty name
-abbrev pub bytes_of : Option (List ℕ) → ℕ
-bytes_of None = 0
-bytes_of (Some text) = length text
-
 abbrev pub name_length : ℕ → List (List ℕ) → ℕ
-name_length number names = bytes_of (slice_get names number)
+name_length number names = length (unwrap_or (slice_get names number) [])
 
 -- elements, bytes, entries
 abbrev pub length_of : State → Value → Result ℕ Fault

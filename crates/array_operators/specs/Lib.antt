@@ -5,6 +5,4 @@ pub mod Indices
 pub mod Lengths
 pub mod Loads
 pub mod Marks
-pub mod Outcomes
 pub mod Stores
-pub mod Texts

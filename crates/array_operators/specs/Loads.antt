@@ -7,15 +7,14 @@ use Rattle.objects.specs.declared.object.Object.{Object}
 use Rattle.memory.specs.Dictionaries.{slot_in}
 use Rattle.memory.specs.Memories.{InUse}
 use Rattle.stacks.specs.Stacked.{Stacked, with_objects, pushed, replaced, room_in}
-use Rattle.operators.specs.Operands.{then, at_least}
+use Rattle.operators.specs.Operands.{then, at_least, operand_at, as_array}
 use Rattle.operators.specs.States.{State, with_memory, with_operands}
-use Rattle.array_operators.specs.Indices.{operand_at, array_span}
 use Rattle.array_operators.specs.Stores.{stored}
 
 -- the array on top is filled from the operands below it, the lowest first; all of them give way to the array
 abbrev pub array_filled : State → Result State Fault
 array_filled s =
-    then (operand_at 0 s.operands) (λ o. then (array_span o.value) (λ a. then (at_least (a.len + 1) s.operands) (λ _.
+    then (operand_at 0 s.operands) (λ o. then (as_array o) (λ a. then (at_least (a.len + 1) s.operands) (λ _.
     Ok (with_operands (replaced (a.len + 1) o s.operands) (with_memory (stored 1 a.start a.len s.operands.objects s.memory) s)))))
 
 -- one more operand, where there is room
@@ -35,7 +34,7 @@ elements_on at (suc n) m os = elements_on (at + 1) n m (slot_in m at ∷ os)
 -- the array gives way to its elements and itself: all of them have room, or none is pushed
 abbrev pub array_loaded : State → Result State Fault
 array_loaded s =
-    then (operand_at 0 s.operands) (λ o. then (array_span o.value) (λ a.
+    then (operand_at 0 s.operands) (λ o. then (as_array o) (λ a.
     cond (nat_le a.len (room_in s.operands))
     (Ok (with_operands (with_objects (o ∷ elements_on a.start a.len s.memory (drop 1 s.operands.objects)) s.operands) s))
     (Err StackOverflow)))

@@ -2,46 +2,44 @@
 ghost use Rattle.std.specs.Prelude.{◌≡◌};
 ghost use Rattle.objects.specs.Outcomes.{after, heard};
 ghost use Rattle.array_operators.specs.Loads.{topped, loaded, array_loaded};
-ghost use Rattle.memory.specs.Views.{memory_of};
-ghost use Rattle.operators.specs.States.{state_of};
-ghost use Rattle.stacks.specs.Views.{stacked};
 
-use crate::indices::{array_span, operand_at};
 use keepers::keeper::Keeper;
 use memory::memory::Memory;
 use objects::fault::Fault;
 use objects::object::{Object, Span};
 use operators::machine::Machine;
+use operators::operand::{Array, Operand};
+use operators::reading::operand;
 use stacks::operands::Operands;
 
 // One more operand, where there is room.
 fn top(operands: &mut Operands, object: Object)
-    ensures { stacked operands.new ≡ topped object (stacked operands.old) }
+    ensures { operands.new ≡ topped object operands.old }
 {
     let _ = operands.push(object);
 }
 
 // Pushes the elements of an array, the first of them first.
 fn load<K: Keeper>(operands: &mut Operands, memory: &Memory<K>, span: Span)
-    ensures { stacked operands.new ≡ loaded span.start span.len (memory_of K.Keeper.kept memory.now) (stacked operands.old) }
+    ensures { operands.new ≡ loaded span.start span.len memory.now operands.old }
 {
-    for i in 0..span.len {
-        let object = memory.slot(usize::from(span.start) + usize::from(i));
-        top(operands, object);
+    let start = usize::from(span.start);
+    for at in start..start + usize::from(span.len) {
+        top(operands, memory.slot(at));
     }
 }
 
 pub fn aload<K: Keeper>(machine: &mut Machine<K>) -> Result<(), Fault>
-    ensures answer { result ≡ heard (array_loaded (state_of K.Keeper.kept machine.old)) }
-    ensures state { state_of K.Keeper.kept machine.new ≡ after (array_loaded (state_of K.Keeper.kept machine.old)) (state_of K.Keeper.kept machine.old) }
+    ensures answer { result ≡ heard (array_loaded machine.old) }
+    ensures state { machine.new ≡ after (array_loaded machine.old) machine.old }
 {
-    let array = operand_at(&machine.operands, 0)?;
-    let span = array_span(array.value)?;
+    let object = operand(&machine.operands, 0)?;
+    let Array(span) = Array::from_object(object)?;
     if usize::from(span.len) > machine.operands.room() {
         return Err(Fault::StackOverflow);
     }
     machine.operands.discard(1);
     load(&mut machine.operands, &machine.memory, span);
-    top(&mut machine.operands, array);
+    top(&mut machine.operands, object);
     Ok(())
 }

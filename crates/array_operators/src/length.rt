@@ -2,30 +2,24 @@
 ghost use Rattle.std.specs.Prelude.{◌≡◌};
 ghost use Rattle.objects.specs.Outcomes.{after, heard};
 ghost use Rattle.array_operators.specs.Lengths.{name_length, length_of, measured};
-ghost use Rattle.names.specs.Table.{model};
-ghost use Rattle.operators.specs.States.{state_of};
 
-use crate::indices::operand_at;
 use keepers::keeper::Keeper;
 use names::table::NameTable;
 use objects::fault::Fault;
-use objects::object::Value;
+use objects::object::{Object, Value};
 use operators::machine::Machine;
-use operators::reading::integer;
+use operators::reading::operand;
 
 // How many bytes a name has.
 fn name_length(names: &NameTable, number: u16) -> u16
-    ensures { result ≡ name_length number (model names.now) }
+    ensures { result ≡ name_length number names.now }
 {
-    match names.text_of(number) {
-        Some(text) => text.len() as u16,
-        None => 0,
-    }
+    names.text_of(number).unwrap_or(&[]).len() as u16
 }
 
 // Elements of an array, bytes of a string or a name, entries of a dictionary.
 fn length_of<K: Keeper>(machine: &Machine<K>, value: Value) -> Result<u16, Fault>
-    ensures { result ≡ length_of (state_of K.Keeper.kept machine.now) value }
+    ensures { result ≡ length_of machine.now value }
 {
     match value {
         Value::Name(number) => Ok(name_length(&machine.names, number)),
@@ -37,11 +31,11 @@ fn length_of<K: Keeper>(machine: &Machine<K>, value: Value) -> Result<u16, Fault
 }
 
 pub fn length<K: Keeper>(machine: &mut Machine<K>) -> Result<(), Fault>
-    ensures answer { result ≡ heard (measured (state_of K.Keeper.kept machine.old)) }
-    ensures state { state_of K.Keeper.kept machine.new ≡ after (measured (state_of K.Keeper.kept machine.old)) (state_of K.Keeper.kept machine.old) }
+    ensures answer { result ≡ heard (measured machine.old) }
+    ensures state { machine.new ≡ after (measured machine.old) machine.old }
 {
-    let object = operand_at(&machine.operands, 0)?;
+    let object: Object = operand(&machine.operands, 0)?;
     let len = length_of(machine, object.value)?;
-    machine.operands.replace(1, integer(i32::from(len)));
+    machine.operands.replace(1, Object::from(i32::from(len)));
     Ok(())
 }

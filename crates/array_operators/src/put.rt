@@ -1,52 +1,40 @@
 // put.
 ghost use Rattle.std.specs.Prelude.{◌≡◌};
-ghost use Rattle.objects.specs.Outcomes.{after, heard};
-ghost use Rattle.array_operators.specs.Elements.{element_put, byte_put, was_put};
-ghost use Rattle.operators.specs.States.{state_of};
+ghost use Rattle.array_operators.specs.Elements.{was_put};
 
-use crate::entries::put_value;
-use crate::indices::{byte_value, operand_at, place_in};
+use crate::indices::{byte_value, place_at, place_in};
 use keepers::keeper::Keeper;
 use objects::fault::Fault;
-use objects::object::{Span, Value};
+use objects::object::{Object, Value};
 use operators::machine::Machine;
-use operators::reading::{at_least, integer_at};
-
-fn put_element<K: Keeper>(machine: &mut Machine<K>, span: Span) -> Result<(), Fault>
-    ensures answer { result ≡ heard (element_put span (state_of K.Keeper.kept machine.old)) }
-    ensures state { state_of K.Keeper.kept machine.new ≡ after (element_put span (state_of K.Keeper.kept machine.old)) (state_of K.Keeper.kept machine.old) }
-{
-    let index = integer_at(&machine.operands, 1)?;
-    let place = place_in(span, index)?;
-    let object = operand_at(&machine.operands, 0)?;
-    machine.memory.set_slot(place, object);
-    machine.operands.discard(3);
-    Ok(())
-}
-
-fn put_byte<K: Keeper>(machine: &mut Machine<K>, span: Span) -> Result<(), Fault>
-    ensures answer { result ≡ heard (byte_put span (state_of K.Keeper.kept machine.old)) }
-    ensures state { state_of K.Keeper.kept machine.new ≡ after (byte_put span (state_of K.Keeper.kept machine.old)) (state_of K.Keeper.kept machine.old) }
-{
-    let index = integer_at(&machine.operands, 1)?;
-    let number = integer_at(&machine.operands, 0)?;
-    let place = place_in(span, index)?;
-    let byte = byte_value(number)?;
-    machine.memory.set_byte(place, byte);
-    machine.operands.discard(3);
-    Ok(())
-}
+use operators::reading::{at_least, operand};
 
 pub fn put<K: Keeper>(machine: &mut Machine<K>) -> Result<(), Fault>
-    ensures answer { result ≡ (was_put (state_of K.Keeper.kept machine.old)).answer }
-    ensures state { state_of K.Keeper.kept machine.new ≡ (was_put (state_of K.Keeper.kept machine.old)).state }
+    ensures answer { result ≡ (was_put machine.old).answer }
+    ensures state { machine.new ≡ (was_put machine.old).state }
 {
     at_least(&machine.operands, 3)?;
-    let container = operand_at(&machine.operands, 2)?;
+    let container: Object = operand(&machine.operands, 2)?;
     match container.value {
-        Value::Array(span) => put_element(machine, span),
-        Value::String(span) => put_byte(machine, span),
-        Value::Dictionary(start) => put_value(machine, start),
-        _ => Err(Fault::TypeCheck),
+        Value::Array(span) => {
+            let place = place_at(&machine.operands, 1, span)?;
+            let element = operand(&machine.operands, 0)?;
+            machine.memory.set_slot(place, element);
+        }
+        Value::String(span) => {
+            let index = operand(&machine.operands, 1)?;
+            let number = operand(&machine.operands, 0)?;
+            let place = place_in(span, index)?;
+            let byte = byte_value(number)?;
+            machine.memory.set_byte(place, byte);
+        }
+        Value::Dictionary(dictionary) => {
+            let value = operand(&machine.operands, 0)?;
+            let key = machine.key_at(1)?;
+            machine.memory.define(dictionary, key, value)?;
+        }
+        _ => return Err(Fault::TypeCheck),
     }
+    machine.operands.discard(3);
+    Ok(())
 }

@@ -1,46 +1,15 @@
 -- Frames made and taken down by the control operators.
 use Rattle.std.specs.Prelude.{ℕ, ◌+◌, Bool, true, false, cond, List, [], ◌∷◌, length, drop, Some, None, Ok, Err, Option, Result, ◌==◌, nat_lt}
-use Rattle.std.specs.List.{slice_get}
 use Rattle.objects.specs.declared.fault.Fault.{Fault}
-use Rattle.objects.specs.declared.fault.Fault.TheVariants.{StackUnderflow, TypeCheck, ExecStackOverflow, InvalidExit}
-use Rattle.objects.specs.declared.object.Object.{Object}
+use Rattle.objects.specs.declared.fault.Fault.TheVariants.{ExecStackOverflow, InvalidExit}
 use Rattle.objects.specs.declared.object.Span.{Span}
 use Rattle.objects.specs.declared.object.Value.{Value}
 use Rattle.objects.specs.declared.object.Value.TheVariants as value
 use Rattle.stacks.specs.Stacked.{Stacked, discarded, opened}
-use Rattle.operators.specs.Operands.{then, at_least, integer_at, natural, boolean_at}
+use Rattle.operators.specs.Operands.{then, at_least, of_type, operand_at, integer_at, natural, boolean_at, procedure_at}
 use Rattle.operators.specs.States.{State, with_operands, with_frames}
 use Rattle.operators.specs.declared.frame.Frame.{Frame}
 use Rattle.operators.specs.declared.frame.Frame.TheVariants as frame
-use Rattle.control_operators.specs.declared.leaving.Leaving.{Leaving}
-use Rattle.control_operators.specs.declared.leaving.Leaving.TheVariants.{On, Last, Never}
-
--- a procedure is an executable array
-abbrev pub executable_span : Bool → Value → Option Span
-executable_span false v = None
-executable_span true value.Null = None
-executable_span true (value.Integer z) = None
-executable_span true (value.Boolean b) = None
-executable_span true value.Mark = None
-executable_span true (value.Name n) = None
-executable_span true (value.Operator o) = None
-executable_span true (value.Array s) = Some s
-executable_span true (value.String s) = None
-executable_span true (value.Dictionary d) = None
-executable_span true (value.Save n) = None
-executable_span true (value.Header h) = None
-
-abbrev pub or_type : {A : Type 0} → Option A → Result A Fault
-or_type None = Err TypeCheck
-or_type (Some x) = Ok x
-
-abbrev pub object_procedure : Option Object → Result Span Fault
-object_procedure None = Err StackUnderflow
-object_procedure (Some o) = or_type (executable_span o.executable o.value)
-
--- the n-th operand as a procedure
-abbrev pub procedure_at : ℕ → Stacked → Result Span Fault
-procedure_at n s = object_procedure (slice_get s.objects n)
 
 -- one frame more, of at most 250
 abbrev pub framed : Frame → State → Result State Fault
@@ -87,7 +56,7 @@ abbrev pub alternative : State → Result State Fault
 alternative s = then (chosen s.operands) (λ p. started_for p 3 s)
 
 -- a loop only makes its frame, for its operands
-abbrev pub looped : (Stacked → Result Frame Fault) → ℕ → State → Result State Fault
+unfoldable pub looped : (Stacked → Result Frame Fault) → ℕ → State → Result State Fault
 looped read n s = then (read s.operands) (λ f. framed_for f n s)
 
 abbrev pub for_frame : Stacked → Result Frame Fault
@@ -115,12 +84,11 @@ over p (value.Dictionary d) = Some (frame.ForallDictionary d 0 p)
 over p (value.Save n) = None
 over p (value.Header h) = None
 
-abbrev pub object_over : Span → Option Object → Result Frame Fault
-object_over p None = Err StackUnderflow
-object_over p (Some o) = or_type (over p o.value)
+abbrev pub frame_over : Span → Stacked → Result Frame Fault
+frame_over p s = then (operand_at 1 s) (λ o. of_type (over p o.value))
 
 abbrev pub forall_frame : Stacked → Result Frame Fault
-forall_frame s = then (at_least 2 s) (λ _. then (procedure_at 0 s) (λ p. object_over p (slice_get s.objects 1)))
+forall_frame s = then (at_least 2 s) (λ _. then (procedure_at 0 s) (λ p. frame_over p s))
 
 -- the stopped frame, and over it the procedure's, unless it is empty: both must fit
 abbrev pub guarded : State → Result State Fault
@@ -128,26 +96,32 @@ guarded s =
     then (procedure_at 0 s.operands) (λ p. then (framed frame.Stopped s) (λ t. then (started p t) (λ u.
     Ok (with_operands (opened u.operands) u))))
 
--- what an exit makes of a frame: a procedure's goes with those below it, a loop's is the last to go, past a stopped frame nothing goes
-abbrev pub leaving_of : Frame → Leaving
-leaving_of (frame.Procedure p) = On
-leaving_of (frame.For i j l p) = Last
-leaving_of (frame.Repeat k p) = Last
-leaving_of (frame.Loop p) = Last
-leaving_of (frame.ForallArray a w p) = Last
-leaving_of (frame.ForallString a w p) = Last
-leaving_of (frame.ForallDictionary d i p) = Last
-leaving_of frame.Stopped = Never
+-- a procedure's frame goes with those below it; every other frame ends an exit
+abbrev pub ends_exit : Frame → Bool
+ends_exit (frame.Procedure p) = false
+ends_exit (frame.For i j l p) = true
+ends_exit (frame.Repeat k p) = true
+ends_exit (frame.Loop p) = true
+ends_exit (frame.ForallArray a w p) = true
+ends_exit (frame.ForallString a w p) = true
+ends_exit (frame.ForallDictionary d i p) = true
+ends_exit frame.Stopped = true
 
-abbrev pub by_leaving : Leaving → ℕ → Option ℕ → Option ℕ
-by_leaving On n below = below
-by_leaving Last n below = Some (n + 1)
-by_leaving Never n below = None
+-- a procedure's frame goes with those below it, a loop's is the last to go, past a stopped frame nothing goes
+abbrev pub leaving : Frame → ℕ → Option ℕ → Option ℕ
+leaving (frame.Procedure p) n below = below
+leaving (frame.For i j l p) n below = Some (n + 1)
+leaving (frame.Repeat k p) n below = Some (n + 1)
+leaving (frame.Loop p) n below = Some (n + 1)
+leaving (frame.ForallArray a w p) n below = Some (n + 1)
+leaving (frame.ForallString a w p) n below = Some (n + 1)
+leaving (frame.ForallDictionary d i p) n below = Some (n + 1)
+leaving frame.Stopped n below = None
 
 -- how many frames go: down to the nearest loop, and with it; none where a stopped frame comes first
 unfoldable pub down_to_loop : ℕ → List Frame → Option ℕ
 down_to_loop n [] = None
-down_to_loop n (f ∷ fs) = by_leaving (leaving_of f) n (down_to_loop (n + 1) fs)
+down_to_loop n (f ∷ fs) = leaving f n (down_to_loop (n + 1) fs)
 
 abbrev pub or_exit : Option ℕ → Result ℕ Fault
 or_exit None = Err InvalidExit

@@ -1,29 +1,13 @@
-// How control operators read procedures and make frames.
+// How control operators make frames.
 ghost use Rattle.std.specs.Prelude.{◌≡◌};
 ghost use Rattle.objects.specs.Outcomes.{after, heard};
-ghost use Rattle.operators.specs.States.{state_of};
-ghost use Rattle.stacks.specs.Views.{stacked};
-ghost use Rattle.control_operators.specs.Frames.{procedure_at, framed_for, started_for};
+ghost use Rattle.control_operators.specs.Frames.{framed_for, started_for};
 
 use keepers::keeper::Keeper;
 use objects::fault::Fault;
-use objects::object::{Span, Value};
+use objects::object::Span;
 use operators::frame::Frame;
 use operators::machine::Machine;
-use stacks::operands::Operands;
-
-// The n-th operand from the top, as a procedure.
-pub fn procedure_at(operands: &Operands, n: usize) -> Result<Span, Fault>
-    ensures { result ≡ procedure_at n (stacked operands.now) }
-{
-    let Some(object) = operands.peek(n) else {
-        return Err(Fault::StackUnderflow);
-    };
-    match (object.executable, object.value) {
-        (true, Value::Array(span)) => Ok(span),
-        _ => Err(Fault::TypeCheck),
-    }
-}
 
 // Makes a frame for so many operands, which go.
 pub fn make_frame<K: Keeper>(
@@ -31,15 +15,15 @@ pub fn make_frame<K: Keeper>(
     frame: Frame,
     operands: usize,
 ) -> Result<(), Fault>
-    ensures answer { result ≡ heard (framed_for frame operands (state_of K.Keeper.kept machine.old)) }
-    ensures state { state_of K.Keeper.kept machine.new ≡ after (framed_for frame operands (state_of K.Keeper.kept machine.old)) (state_of K.Keeper.kept machine.old) }
+    ensures answer { result ≡ heard (framed_for frame operands machine.old) }
+    ensures state { machine.new ≡ after (framed_for frame operands machine.old) machine.old }
 {
-    if machine.frames.push(frame) {
-        machine.operands.discard(operands);
-        Ok(())
-    } else {
-        Err(Fault::ExecStackOverflow)
-    }
+    machine
+        .frames
+        .push(frame)
+        .map_err(|_| Fault::ExecStackOverflow)?;
+    machine.operands.discard(operands);
+    Ok(())
 }
 
 // Makes a procedure's frame for so many operands, which go; an empty procedure makes none.
@@ -48,8 +32,8 @@ pub fn start<K: Keeper>(
     procedure: Span,
     operands: usize,
 ) -> Result<(), Fault>
-    ensures answer { result ≡ heard (started_for procedure operands (state_of K.Keeper.kept machine.old)) }
-    ensures state { state_of K.Keeper.kept machine.new ≡ after (started_for procedure operands (state_of K.Keeper.kept machine.old)) (state_of K.Keeper.kept machine.old) }
+    ensures answer { result ≡ heard (started_for procedure operands machine.old) }
+    ensures state { machine.new ≡ after (started_for procedure operands machine.old) machine.old }
 {
     if procedure.len == 0 {
         machine.operands.discard(operands);

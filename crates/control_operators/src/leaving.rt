@@ -1,63 +1,46 @@
 // exit stop.
-ghost use Rattle.std.specs.Prelude.{◌≡◌, ◌≤◌, length, IfSome, Err};
+ghost use Rattle.std.specs.Prelude.{◌≡◌, ◌≤◌, ◌<◌, length, position, reverse, IfSome, Err};
 ghost use Rattle.objects.specs.Outcomes.{after, heard};
 ghost use Rattle.objects.specs.declared.fault.Fault.TheVariants.{UncaughtStop};
-ghost use Rattle.operators.specs.States.{state_of};
-ghost use Rattle.stacks.specs.Entries.{entries};
-ghost use Rattle.control_operators.specs.Frames.{leaving_of, down_to_loop, left_loop};
+ghost use Rattle.control_operators.specs.Frames.{ends_exit, down_to_loop, left_loop};
 
 use keepers::keeper::Keeper;
 use objects::fault::Fault;
 use operators::frame::Frame;
-use operators::machine::Machine;
-use stacks::stack::Stack;
+use operators::machine::{Frames, Machine};
 
-// What an exit makes of a frame.
-#[derive(Clone, Copy)]
-pub enum Leaving {
-    // it goes, and so do frames below it
-    On,
-    // it is the last to go
-    Last,
-    // nothing goes past it
-    Never,
+// Whether an exit ends at a frame: any but a procedure's.
+fn ends_exit(frame: &Frame) -> bool
+    ensures { result ≡ ends_exit frame.now }
+{
+    !matches!(frame, Frame::Procedure(_))
 }
 
-fn way_of(frame: Frame) -> Leaving
-    ensures { result ≡ leaving_of frame }
+// How many procedures' frames lie above the topmost frame of another kind, in frames of which the lowest comes first.
+fn procedures_on_top(frames: &[Frame]) -> Option<usize>
+    ensures value { result ≡ position ends_exit (reverse frames.now) }
+    ensures within { IfSome result (λ n. n < length frames.now) }
 {
-    match frame {
-        Frame::Procedure(_) => Leaving::On,
-        Frame::Stopped => Leaving::Never,
-        _ => Leaving::Last,
-    }
+    frames.iter().rev().position(|frame| ends_exit(frame))
 }
 
 // How many frames an exit takes down: to the nearest loop, and with it. None where a stopped frame comes first.
-fn frames_to_leave(frames: &Stack<Frame, 250>) -> Option<usize>
-    ensures value { result ≡ down_to_loop 0 (entries frames.now) }
-    ensures within { IfSome result (λ n. n ≤ length (entries frames.now)) }
+fn frames_to_leave(frames: &Frames) -> Option<usize>
+    ensures value { result ≡ down_to_loop 0 frames.now }
+    ensures within { IfSome result (λ n. n ≤ length frames.now) }
 {
-    for n in 0..frames.depth() {
-        let Some(frame) = frames.peek(n) else {
-            return None;
-        };
-        match way_of(frame) {
-            Leaving::On => {}
-            Leaving::Last => return Some(n + 1),
-            Leaving::Never => return None,
-        }
+    let above = procedures_on_top(frames.lowest_first())?;
+    match frames.peek(above)? {
+        Frame::Stopped => None,
+        _ => Some(above + 1),
     }
-    None
 }
 
 pub fn exit<K: Keeper>(machine: &mut Machine<K>) -> Result<(), Fault>
-    ensures answer { result ≡ heard (left_loop (state_of K.Keeper.kept machine.old)) }
-    ensures state { state_of K.Keeper.kept machine.new ≡ after (left_loop (state_of K.Keeper.kept machine.old)) (state_of K.Keeper.kept machine.old) }
+    ensures answer { result ≡ heard (left_loop machine.old) }
+    ensures state { machine.new ≡ after (left_loop machine.old) machine.old }
 {
-    let Some(count) = frames_to_leave(&machine.frames) else {
-        return Err(Fault::InvalidExit);
-    };
+    let count = frames_to_leave(&machine.frames).ok_or(Fault::InvalidExit)?;
     let depth = machine.frames.depth();
     machine.frames.truncate(depth - count);
     Ok(())
@@ -66,7 +49,7 @@ pub fn exit<K: Keeper>(machine: &mut Machine<K>) -> Result<(), Fault>
 // Always refused: the refusal takes the frames down to the nearest stopped frame.
 pub fn stop<K: Keeper>(machine: &mut Machine<K>) -> Result<(), Fault>
     ensures answer { result ≡ Err UncaughtStop }
-    ensures state { state_of K.Keeper.kept machine.new ≡ state_of K.Keeper.kept machine.old }
+    ensures state { machine.new ≡ machine.old }
 {
     let _ = machine;
     Err(Fault::UncaughtStop)

@@ -1,32 +1,31 @@
-// for repeat loop forall exit.
-ghost use Rattle.std.specs.Prelude.{◌≡◌};
+// for repeat loop forall.
+ghost use Rattle.std.specs.Prelude.{◌≡◌, Result};
+ghost use Rattle.stacks.specs.Stacked.{Stacked};
 ghost use Rattle.objects.specs.Outcomes.{after, heard};
-ghost use Rattle.operators.specs.States.{state_of};
-ghost use Rattle.std.specs.List.{slice_get};
-ghost use Rattle.stacks.specs.Views.{stacked};
-ghost use Rattle.control_operators.specs.Frames.{looped, for_frame, repeat_frame, loop_frame, object_over, forall_frame};
+ghost use Rattle.operators.specs.Steps.{ComputesLent, Follows};
+ghost use Rattle.control_operators.specs.Frames.{looped, for_frame, repeat_frame, loop_frame, frame_over, forall_frame};
 
-use crate::framing::{make_frame, procedure_at};
+use crate::framing::make_frame;
 use keepers::keeper::Keeper;
 use objects::fault::Fault;
-use objects::object::{Span, Value};
+use objects::object::{Object, Span, Value};
 use operators::frame::Frame;
 use operators::machine::Machine;
-use operators::reading::{at_least, integer_at, natural};
+use operators::operand::Procedure;
+use operators::reading::{at_least, natural, operand};
 use stacks::operands::Operands;
 
 // The frame of a for.
 fn for_frame(operands: &Operands) -> Result<Frame, Fault>
-    ensures { result ≡ for_frame (stacked operands.now) }
+    ensures { result ≡ for_frame operands.now }
 {
     at_least(operands, 4)?;
-    let first = integer_at(operands, 3)?;
-    let step = integer_at(operands, 2)?;
-    let limit = integer_at(operands, 1)?;
-    let body = procedure_at(operands, 0)?;
-    let next = Some(first);
+    let first = operand(operands, 3)?;
+    let step = operand(operands, 2)?;
+    let limit = operand(operands, 1)?;
+    let Procedure(body) = operand(operands, 0)?;
     Ok(Frame::For {
-        next,
+        next: Some(first),
         step,
         limit,
         body,
@@ -35,30 +34,28 @@ fn for_frame(operands: &Operands) -> Result<Frame, Fault>
 
 // The frame of a repeat.
 fn repeat_frame(operands: &Operands) -> Result<Frame, Fault>
-    ensures { result ≡ repeat_frame (stacked operands.now) }
+    ensures { result ≡ repeat_frame operands.now }
 {
     at_least(operands, 2)?;
-    let number = integer_at(operands, 1)?;
-    let body = procedure_at(operands, 0)?;
+    let number = operand(operands, 1)?;
+    let Procedure(body) = operand(operands, 0)?;
     let left = natural(number)?;
     Ok(Frame::Repeat { left, body })
 }
 
 // The frame of a loop.
 fn loop_frame(operands: &Operands) -> Result<Frame, Fault>
-    ensures { result ≡ loop_frame (stacked operands.now) }
+    ensures { result ≡ loop_frame operands.now }
 {
-    let body = procedure_at(operands, 0)?;
+    let Procedure(body) = operand(operands, 0)?;
     Ok(Frame::Loop { body })
 }
 
 // What a forall goes over: the second operand from the top.
 fn frame_over(operands: &Operands, body: Span) -> Result<Frame, Fault>
-    ensures { result ≡ object_over body (slice_get (stacked operands.now).objects 1) }
+    ensures { result ≡ frame_over body operands.now }
 {
-    let Some(container) = operands.peek(1) else {
-        return Err(Fault::StackUnderflow);
-    };
+    let container: Object = operand(operands, 1)?;
     match container.value {
         Value::Array(span) => Ok(Frame::ForallArray {
             left: span,
@@ -81,41 +78,51 @@ fn frame_over(operands: &Operands, body: Span) -> Result<Frame, Fault>
 
 // The frame of a forall.
 fn forall_frame(operands: &Operands) -> Result<Frame, Fault>
-    ensures { result ≡ forall_frame (stacked operands.now) }
+    ensures { result ≡ forall_frame operands.now }
 {
     at_least(operands, 2)?;
-    let body = procedure_at(operands, 0)?;
+    let Procedure(body) = operand(operands, 0)?;
     frame_over(operands, body)
 }
 
-pub fn run_for<K: Keeper>(machine: &mut Machine<K>) -> Result<(), Fault>
-    ensures answer { result ≡ heard (looped for_frame 4 (state_of K.Keeper.kept machine.old)) }
-    ensures state { state_of K.Keeper.kept machine.new ≡ after (looped for_frame 4 (state_of K.Keeper.kept machine.old)) (state_of K.Keeper.kept machine.old) }
+// Makes the frame that is read of the operands, for the top n of them.
+#[tactic(auto, unfolding(crate::specs::Frames::looped))]
+fn begin<K: Keeper, F: FnOnce(&Operands) -> Result<Frame, Fault>>(
+    machine: &mut Machine<K>,
+    n: usize,
+    read: F,
+) -> Result<(), Fault>
+    requires { F.IsAlwaysCallable read }
+    ensures { (frame : Stacked → Result Frame Fault) → ComputesLent (F.post read) frame → Follows (looped frame n machine.old) machine.old result machine.new }
 {
-    let frame = for_frame(&machine.operands)?;
-    make_frame(machine, frame, 4)
+    let frame = read(&machine.operands)?;
+    make_frame(machine, frame, n)
+}
+
+pub fn run_for<K: Keeper>(machine: &mut Machine<K>) -> Result<(), Fault>
+    ensures answer { result ≡ heard (looped for_frame 4 machine.old) }
+    ensures state { machine.new ≡ after (looped for_frame 4 machine.old) machine.old }
+{
+    begin(machine, 4, for_frame)
 }
 
 pub fn repeat<K: Keeper>(machine: &mut Machine<K>) -> Result<(), Fault>
-    ensures answer { result ≡ heard (looped repeat_frame 2 (state_of K.Keeper.kept machine.old)) }
-    ensures state { state_of K.Keeper.kept machine.new ≡ after (looped repeat_frame 2 (state_of K.Keeper.kept machine.old)) (state_of K.Keeper.kept machine.old) }
+    ensures answer { result ≡ heard (looped repeat_frame 2 machine.old) }
+    ensures state { machine.new ≡ after (looped repeat_frame 2 machine.old) machine.old }
 {
-    let frame = repeat_frame(&machine.operands)?;
-    make_frame(machine, frame, 2)
+    begin(machine, 2, repeat_frame)
 }
 
 pub fn run_loop<K: Keeper>(machine: &mut Machine<K>) -> Result<(), Fault>
-    ensures answer { result ≡ heard (looped loop_frame 1 (state_of K.Keeper.kept machine.old)) }
-    ensures state { state_of K.Keeper.kept machine.new ≡ after (looped loop_frame 1 (state_of K.Keeper.kept machine.old)) (state_of K.Keeper.kept machine.old) }
+    ensures answer { result ≡ heard (looped loop_frame 1 machine.old) }
+    ensures state { machine.new ≡ after (looped loop_frame 1 machine.old) machine.old }
 {
-    let frame = loop_frame(&machine.operands)?;
-    make_frame(machine, frame, 1)
+    begin(machine, 1, loop_frame)
 }
 
 pub fn forall<K: Keeper>(machine: &mut Machine<K>) -> Result<(), Fault>
-    ensures answer { result ≡ heard (looped forall_frame 2 (state_of K.Keeper.kept machine.old)) }
-    ensures state { state_of K.Keeper.kept machine.new ≡ after (looped forall_frame 2 (state_of K.Keeper.kept machine.old)) (state_of K.Keeper.kept machine.old) }
+    ensures answer { result ≡ heard (looped forall_frame 2 machine.old) }
+    ensures state { machine.new ≡ after (looped forall_frame 2 machine.old) machine.old }
 {
-    let frame = forall_frame(&machine.operands)?;
-    make_frame(machine, frame, 2)
+    begin(machine, 2, forall_frame)
 }

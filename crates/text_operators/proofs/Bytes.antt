@@ -1,7 +1,7 @@
 -- The bytes of a string, one by one.
 use Rattle.std.proofs.Common.{◌≡◌, ℕ, zero, suc, ◌+◌, ◌<◌, length, get_or, refl, ap, ◌∙◌, arith}
 use Rattle.memory.specs.Memories.{InUse}
-use Rattle.array_operators.specs.Texts.{byte_in, bytes_from}
+use Rattle.operators.specs.Texts.{byte_in, bytes_from}
 
 pub bytes_length : (at n : ℕ) (m : InUse) → length (bytes_from at n m) ≡ n
 unfolding bytes_from

@@ -1,8 +1,7 @@
 -- Sameness on a machine is an equivalence: by letters where there are letters, by value elsewhere.
-use Rattle.std.proofs.Common.{◌≡◌, ℕ, ◌<◌, Bool, true, false, cond, eqb, List, [], ◌∷◌, length, get_or, ℤ, pos, negsuc, Some, None, Decides, Option, sym, refl, ap, ◌∙◌, inl, inr}
+use Rattle.std.proofs.Common.{◌≡◌, ℕ, Bool, true, false, cond, eqb, List, [], ◌∷◌, get_or, ℤ, pos, negsuc, Some, None, Decides, Option, sym, refl, ap, ◌∙◌, inl, inr}
 use Rattle.std.proofs.lemmas.Slice.Eq.{bytes_eq-Decides}
-use Rattle.std.proofs.lemmas.List.{ext_get_or}
-use Rattle.std.proofs.lemmas.Bool.{cases_Bool, false≢true, eqb-true, eqb-false}
+use Rattle.std.proofs.lemmas.Bool.{cases_Bool, false≢true}
 use Rattle.std.proofs.lemmas.Bool.Decides.{same_from_decides, Decides-at, Decides-like}
 use Rattle.std.specs.Str.{bytes_eq}
 use Rattle.objects.proofs.Operators.{named_name}
@@ -58,12 +57,6 @@ same_value_decides a b =
 pub not_same : (xs ys : List ℕ) → (xs ≡ ys → ⊥) → false ≡ bytes_eq xs ys
 not_same xs ys apart = elim (cases_Bool (bytes_eq xs ys)) [ inl t ↦ absurd (apart ((bytes_eq-Decides xs ys).0 t)) | inr f ↦ sym f ]
 
-pub other_length : (xs ys : List ℕ) (r : Bool) → r ≡ eqb (length xs) (length ys) → r ≡ false → false ≡ bytes_eq xs ys
-other_length xs ys r test failed = not_same xs ys (λ e. eqb-false _ _ (sym test ∙ failed) (ap length e))
-
-pub all_same : (xs ys : List ℕ) (r : Bool) → r ≡ eqb (length xs) (length ys) → r ≡ true → ((i : ℕ) → i < length xs → get_or xs i 0 ≡ get_or ys i 0) → true ≡ bytes_eq xs ys
-all_same xs ys r test passed each = sym ((bytes_eq-Decides xs ys).1 (ext_get_or 0 xs ys (eqb-true _ _ (sym test ∙ passed)) each))
-
 bytes_either_way : (xs ys : List ℕ) → bytes_eq xs ys ≡ bytes_eq ys xs
 bytes_either_way xs ys = same_from_decides _ _ (bytes_eq-Decides xs ys) (Decides-like _ sym sym (bytes_eq-Decides ys xs))
 
@@ -92,6 +85,9 @@ letters_by o p t x y g h = Decides-at _ _ (ap (λ z. same_by z p t) g ∙ ap (λ
 
 value_by : (P : Type 0) (o p : Option (List ℕ)) (t : Bool) → o ≡ None → p ≡ None → Decides t P → Decides (same_by o p t) P
 value_by P o p t g h d = Decides-at _ _ (ap (λ z. same_by z p t) g ∙ ap (λ z. same_by None z t) h) d
+
+pub by_value_alone : (o p : Option (List ℕ)) (t r : Bool) → o ≡ None → p ≡ None → r ≡ t → r ≡ same_by o p t
+by_value_alone o p t r g h value = value ∙ sym (ap (λ z. same_by z p t) g ∙ ap (λ z. same_by None z t) h)
 
 apart_by : (o p : Option (List ℕ)) (t : Bool) (x : List ℕ) → o ≡ Some x → p ≡ None → same_by o p t ≡ false
 apart_by o p t x g h = ap (λ z. same_by z p t) g ∙ ap (λ z. same_by (Some x) z t) h

@@ -6,11 +6,11 @@ use Rattle.objects.specs.declared.fault.Fault.{Fault}
 use Rattle.objects.specs.declared.object.Value.{Value}
 use Rattle.objects.specs.declared.object.Value.TheVariants.{Null, Integer, Boolean, Mark, Name, Operator, Array, String, Dictionary, Save, Header}
 use Rattle.memory.specs.Memories.{InUse}
-use Rattle.stacks.specs.Stacked.{truth, replaced}
-use Rattle.array_operators.specs.Indices.{operand_at}
-use Rattle.operators.specs.Operands.{then, at_least}
+use Rattle.objects.specs.Objects.{truth}
+use Rattle.stacks.specs.Stacked.{replaced}
+use Rattle.operators.specs.Operands.{then, read_two}
 use Rattle.operators.specs.States.{State, with_operands}
-use Rattle.array_operators.specs.Texts.{text_of}
+use Rattle.operators.specs.Texts.{text_of}
 use Rattle.text_operators.specs.ObjectTexts.{name_text}
 
 -- names and strings have letters, by which they are compared
@@ -71,13 +71,20 @@ same a b s = same_among a b s.names s.memory
 
 -- whether the top two operands are the same
 abbrev pub two_same : State → Result Bool Fault
-two_same s =
-    then (at_least 2 s.operands) (λ _. then (operand_at 1 s.operands) (λ a. then (operand_at 0 s.operands) (λ b.
-    Ok (same a.value b.value s))))
+two_same s = then (read_two Ok s.operands) (λ ab. Ok (same ab.0.value ab.1.value s))
 
 -- two operands give way to a boolean
 abbrev pub two_told : Bool → State → State
 two_told b s = with_operands (replaced 2 (truth b) s.operands) s
+
+-- whether it is true, or with false wanted, whether it is false
+abbrev pub as_wanted : Bool → Bool → Bool
+as_wanted true b = b
+as_wanted false b = not b
+
+-- whether the top two are the same, or with false wanted, whether they are not
+abbrev pub same_told : Bool → State → Result State Fault
+same_told wanted s = then (two_same s) (λ b. Ok (two_told (as_wanted wanted b) s))
 
 abbrev pub equal_told : State → Result State Fault
 equal_told s = then (two_same s) (λ b. Ok (two_told b s))

@@ -1,20 +1,16 @@
 -- The text of an object.
-use Rattle.std.specs.Prelude.{ℕ, Bool, true, false, List, [], Some, None, codes, Option}
+use Rattle.std.specs.Prelude.{ℕ, Bool, true, false, List, [], codes, unwrap_or}
 use Rattle.std.specs.List.{slice_get}
 use Rattle.objects.specs.Decimals.{integer_text}
 use Rattle.objects.specs.declared.object.Value.{Value}
 use Rattle.objects.specs.declared.object.Value.TheVariants.{Null, Integer, Boolean, Mark, Name, Operator, Array, String, Dictionary, Save, Header}
 use Rattle.memory.specs.Memories.{InUse}
 use Rattle.operators.specs.States.{State}
-use Rattle.array_operators.specs.Texts.{text_of}
-
-abbrev pub or_empty : Option (List ℕ) → List ℕ
-or_empty None = []
-or_empty (Some text) = text
+use Rattle.operators.specs.Texts.{text_of}
 
 -- a number that no name has counts as an empty name
 abbrev pub name_text : ℕ → List (List ℕ) → List ℕ
-name_text number names = or_empty (slice_get names number)
+name_text number names = unwrap_or (slice_get names number) []
 
 abbrev pub truth_text : Bool → List ℕ
 truth_text true = codes "true"

@@ -1,7 +1,6 @@
 // The text of an object.
 ghost use Rattle.std.specs.Prelude.{◌≡◌};
 ghost use Rattle.memory.specs.Memories.{InUse};
-ghost use Rattle.names.specs.Table.{model};
 ghost use Rattle.text_operators.specs.ObjectTexts.{name_text, truth_text, no_text, text_among};
 ghost use Rattle.text_operators.specs.Texts.{bytes_of};
 
@@ -11,12 +10,9 @@ use objects::object::Value;
 
 // The letters of a name. A number that no name has counts as an empty name.
 fn name_text(names: &NameTable, number: u16) -> &[u8]
-    ensures { result.now ≡ name_text number (model names.now) }
+    ensures { result.now ≡ name_text number names.now }
 {
-    match names.text_of(number) {
-        Some(text) => text,
-        None => &[],
-    }
+    names.text_of(number).unwrap_or(&[])
 }
 
 fn truth_text(flag: bool) -> &'static [u8]
@@ -34,7 +30,7 @@ fn no_text() -> &'static [u8]
 
 // The text of an object: an integer's decimal text, true or false, a string's bytes, a name's letters whatever its flag.
 pub fn object_text<'a>(names: &'a NameTable, value: Value) -> Text<'a>
-    ensures { (m : InUse) → bytes_of result m ≡ text_among value (model names.now) m }
+    ensures { (m : InUse) → bytes_of result m ≡ text_among value names.now m }
 {
     match value {
         Value::Integer(number) => Text::Integer(number),

@@ -1,8 +1,7 @@
 // How a text goes out: all of it, or nothing.
 ghost use Rattle.std.specs.Prelude.{◌≡◌, ◌+◌, ◌≤◌, [], ◌∷◌, ◌++◌, length};
-ghost use Rattle.memory.specs.Views.{memory_of};
 ghost use Rattle.objects.specs.Outcomes.{after, heard};
-ghost use Rattle.stacks.specs.Printed.{printed, appended};
+ghost use Rattle.stacks.specs.Printed.{appended};
 ghost use Rattle.text_operators.specs.Texts.{bytes_of};
 
 use crate::text::Text;
@@ -13,19 +12,31 @@ use stacks::output::Output;
 
 // Appends a text that has room.
 fn append<K: Keeper>(output: &mut Output, memory: &Memory<K>, text: Text)
-    requires { length (printed output.old) + length (bytes_of text (memory_of K.Keeper.kept memory.now)) ≤ 4096 }
-    ensures { printed output.new ≡ printed output.old ++ bytes_of text.entry (memory_of K.Keeper.kept memory.now) }
+    requires { length output.old + length (bytes_of text memory.now) ≤ 4096 }
+    ensures { output.new ≡ output.old ++ bytes_of text.entry memory.now }
 {
-    for i in 0..text.len() {
-        let _ = output.write_byte(text.byte(memory, i));
+    for byte in text.bytes(memory) {
+        let _ = output.write_byte(byte);
     }
 }
 
-// Appends a line feed, if it has room.
-fn end_line(output: &mut Output)
-    ensures { printed output.new ≡ after (appended (10 ∷ []) (printed output.old)) (printed output.old) }
+// The text and what ends it.
+// Kept: output and memory apart, and no method on the whole machine: a text may borrow its bytes from the machine's names, and then nothing that writes to the whole machine can take it.
+fn write<K: Keeper>(
+    output: &mut Output,
+    memory: &Memory<K>,
+    text: Text,
+    end: &[u8],
+) -> Result<(), Fault>
+    ensures answer { result ≡ heard (appended (bytes_of text.entry memory.now ++ end.now) output.old) }
+    ensures state { output.new ≡ after (appended (bytes_of text.entry memory.now ++ end.now) output.old) output.old }
 {
-    let _ = output.write_byte(b'\n');
+    let room = output.room().checked_sub(end.len()).ok_or(Fault::IoError)?;
+    if text.len() > room {
+        return Err(Fault::IoError);
+    }
+    append(output, memory, text);
+    output.write(end)
 }
 
 pub fn write_text<K: Keeper>(
@@ -33,14 +44,10 @@ pub fn write_text<K: Keeper>(
     memory: &Memory<K>,
     text: Text,
 ) -> Result<(), Fault>
-    ensures answer { result ≡ heard (appended (bytes_of text.entry (memory_of K.Keeper.kept memory.now)) (printed output.old)) }
-    ensures state { printed output.new ≡ after (appended (bytes_of text.entry (memory_of K.Keeper.kept memory.now)) (printed output.old)) (printed output.old) }
+    ensures answer { result ≡ heard (appended (bytes_of text.entry memory.now) output.old) }
+    ensures state { output.new ≡ after (appended (bytes_of text.entry memory.now) output.old) output.old }
 {
-    if text.len() > output.room() {
-        return Err(Fault::IoError);
-    }
-    append(output, memory, text);
-    Ok(())
+    write(output, memory, text, b"")
 }
 
 // The text and a line feed.
@@ -49,13 +56,8 @@ pub fn write_line<K: Keeper>(
     memory: &Memory<K>,
     text: Text,
 ) -> Result<(), Fault>
-    ensures answer { result ≡ heard (appended (bytes_of text.entry (memory_of K.Keeper.kept memory.now) ++ 10 ∷ []) (printed output.old)) }
-    ensures state { printed output.new ≡ after (appended (bytes_of text.entry (memory_of K.Keeper.kept memory.now) ++ 10 ∷ []) (printed output.old)) (printed output.old) }
+    ensures answer { result ≡ heard (appended (bytes_of text.entry memory.now ++ 10 ∷ []) output.old) }
+    ensures state { output.new ≡ after (appended (bytes_of text.entry memory.now ++ 10 ∷ []) output.old) output.old }
 {
-    if text.len() >= output.room() {
-        return Err(Fault::IoError);
-    }
-    append(output, memory, text);
-    end_line(output);
-    Ok(())
+    write(output, memory, text, b"\n")
 }

@@ -1,30 +1,42 @@
-use Rattle.std.proofs.Common.{◌≡◌, ◌+◌, ◌-◌, sym, ap, ◌∙◌, arith}
+use Rattle.std.proofs.Common.{◌≡◌, ◌-◌, sym, ap, ◌∙◌, inl, inr, arith}
 use Rattle.std.specs.List.{slice_get}
 use Rattle.memory.specs.Memories.{with_slot}
-use Rattle.memory.specs.Views.{memory_of}
-use Rattle.stacks.specs.Views.{stacked}
 use Rattle.array_operators.specs.Stores.{or_blank, stored}
-use Rattle.array_operators.proofs.Stores.{stored_more, stored_none}
+use Rattle.array_operators.proofs.Stores.{stored_step, stored_none}
 use Rattle.array_operators.proofs.store.store_operands.Goals as goal
 
-pub loop-i-preserved : goal.loop-i-preserved
-loop-i-preserved g c =
-    let m = memory_of g.K.Keeper.kept c.loop-i.memory in
-    let os = (stacked c.args.operands.now).objects in
-    let above = c.args.above in
-    let at = c.args.at in
-    let n = c.args.n in
-    let i = c.loop-i.i in
-    let step : memory_of g.K.Keeper.kept c.set_slot.new.self ≡ with_slot (at + i) (or_blank (slice_get os (above + (n - 1 - i)))) m =
-    let a = c.from.ensures in
-    let b = c.from-in-loop-i.ensures in
-    let d = c.from-in-loop-i-2.ensures in
-    let e = c.from-in-loop-i-3.ensures in
-    let read = c.operand_or_blank-object.ensures in
+pub loop-at-preserved : goal.loop-at-preserved
+loop-at-preserved g c =
+    let place = c.in-Some.ensures.steps.0 in
+    let left = c.in-Some.ensures.steps.1 in
+    let before = c.loop-at.invariant in
+    let m = c.loop-at.memory in
+    let os = c.args.operands.now.objects in
+    let one : c.set_slot.new.self ≡ with_slot c.loop-at.at-iterator.a.start (or_blank (slice_get os c.in-Some.from_top)) m =
+    let at = place.1.1 in
+    let read = c.peek.ensures in
+    let or = c.unwrap_or-object.ensures in
     let wrote = c.set_slot.ensures in
     cc in
-    ap (stored above (at + (i + 1)) (n - (i + 1)) os) step ∙ sym (stored_more above at n i os m (omega arith)) ∙ c.loop-i.invariant
+    record {
+      slots =
+          ap (λ e. stored c.from-above.result c.next.new.self.a.start (e - c.next.new.self.a.start) os c.set_slot.new.self) place.0
+          ∙ stored_step c.from-above.result c.loop-at.at-iterator.a.start c.loop-at.at-iterator.a.end c.next.new.self.a.start c.in-Some.from_top os m c.set_slot.new.self
+          (omega arith) place.1.2 (omega arith) one
+          ∙ before.slots;
+      lowest = left.0 ∙ before.lowest;
+      ordered = omega arith;
+      as_many = omega arith;
+    }
 
 pub returns : goal.returns
 returns g c =
-    sym (stored_none c.args.above (c.args.at + c.loop-i.i) c.args.n c.loop-i.i (stacked c.args.operands.now).objects (memory_of g.K.Keeper.kept c.loop-i.memory) (omega arith)) ∙ c.loop-i.invariant
+    let none : c.loop-at.at-iterator.a.end - c.loop-at.at-iterator.a.start ≡ 0 =
+    elim c.in-None.ensures.steps [ inl x ↦ omega arith | inr y ↦ omega arith ] in
+    let same : stored c.from-above.result c.from-start.result c.from-len.result c.args.operands.now.objects c.args.memory.now
+    ≡ stored c.args.above c.args.span.start c.args.span.len c.args.operands.now.objects c.args.memory.now =
+    let a = c.from-above.ensures in
+    let b = c.from-start.ensures in
+    let d = c.from-len.ensures in
+    cc in
+    sym (stored_none _ _ _ _ _ none) ∙ c.loop-at.invariant.slots ∙ same

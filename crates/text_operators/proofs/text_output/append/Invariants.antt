@@ -1,9 +1,7 @@
-use Rattle.std.proofs.Common.{◌≡◌, ◌++◌, take}
-use Rattle.memory.specs.Views.{memory_of}
-use Rattle.stacks.specs.Printed.{printed}
-use Rattle.text_operators.specs.Texts.{bytes_of}
+use Rattle.std.proofs.Common.{◌≡◌, ◌++◌}
+use Rattle.text_operators.specs.Texts.{bytes_of, rest}
 use Rattle.text_operators.proofs.text_output.append.Given as goal
 
--- the bytes passed are out
-abbrev pub invariant-loop-i : goal.invariant-loop-i
-invariant-loop-i g l = printed l.output ≡ printed l.initial.output ++ take l.i (bytes_of l.text (memory_of g.K.Keeper.kept l.memory))
+-- what is out and what is left are what was out and the text
+abbrev pub invariant-loop-byte : goal.invariant-loop-byte
+invariant-loop-byte g l = l.output ++ rest l.byte-iterator ≡ l.initial.output ++ bytes_of l.fn.text l.fn.memory
