@@ -1,6 +1,7 @@
 // Sizes, limits and refusals.
-use crate::short::{hold, holds, number, put, refused};
+use crate::short::{hold, holds, put, refused};
 use keepers::keeper::Keeper;
+use objects::object::Object;
 use std::process::Abort;
 use std::test::*;
 
@@ -21,7 +22,7 @@ pub fn without_slots<K: Keeper>(rt: &impl Abort, keeper: &mut K) -> Result<(), F
     assert_eq!(rt; keeper.slot_count(), 0);
     assert_eq!(rt; keeper.byte_count(), 1);
     refused(rt, keeper.slot(0), 4)?;
-    refused(rt, keeper.put_slot(0, number(1)), 4)?;
+    refused(rt, keeper.put_slot(0, Object::from(1)), 4)?;
     refused(rt, keeper.back_to(0), 10)?;
     opens_exactly(rt, keeper, 0)?;
     keeper.put_byte(0, 255)?;
@@ -52,8 +53,8 @@ pub fn outside<K: Keeper>(rt: &impl Abort, keeper: &mut K) -> Result<(), Fail> {
     keeper.put_byte(1, 4)?;
     refused(rt, keeper.slot(3), 4)?;
     refused(rt, keeper.slot(usize::MAX), 4)?;
-    refused(rt, keeper.put_slot(3, number(9)), 4)?;
-    refused(rt, keeper.put_slot(usize::MAX, number(9)), 4)?;
+    refused(rt, keeper.put_slot(3, Object::from(9)), 4)?;
+    refused(rt, keeper.put_slot(usize::MAX, Object::from(9)), 4)?;
     refused(rt, keeper.byte(2), 4)?;
     refused(rt, keeper.put_byte(2, 9), 4)?;
     refused(rt, keeper.put_byte(usize::MAX, 9), 4)?;

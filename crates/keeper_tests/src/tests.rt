@@ -9,28 +9,26 @@ use objects::object::Object;
 use std::process::Abort;
 use std::test::*;
 
-// Runs a check on a copy keeper with this many slots, bytes and objects of second memory.
+// Runs a check on a keeper of this type, with this many slots, bytes and blank places of second memory.
+macro_rules! on_keeper {
+    ($rt:expr; $keeper:ident, $blank:expr, $slots:literal, $bytes:literal, $second:literal, $check:ident $(, $more:expr)*) => {{
+        let mut slots = [Object::BLANK; $slots];
+        let mut bytes = [0u8; $bytes];
+        let mut second = [$blank; $second];
+        let mut keeper = $keeper::new(&mut slots, &mut bytes, &mut second);
+        $check($rt, &mut keeper $(, $more)*)
+    }};
+}
+
 macro_rules! on_copies {
-    ($rt:expr; $slots:literal, $bytes:literal, $second:literal, $check:ident $(, $more:expr)*) => {{
-        let mut slots = [Object::BLANK; $slots];
-        let mut bytes = [0u8; $bytes];
-        let mut copies = [Object::BLANK; $second];
-        let mut keeper = CopyKeeper::new(&mut slots, &mut bytes, &mut copies);
-        $check($rt, &mut keeper $(, $more)*)
-    }};
+    ($rt:expr; $($rest:tt)*) => { on_keeper!($rt; CopyKeeper, Object::BLANK, $($rest)*) };
 }
 
-// Runs a check on a journal with this many slots, bytes and notes of second memory.
 macro_rules! on_journal {
-    ($rt:expr; $slots:literal, $bytes:literal, $second:literal, $check:ident $(, $more:expr)*) => {{
-        let mut slots = [Object::BLANK; $slots];
-        let mut bytes = [0u8; $bytes];
-        let mut notes = [Note::BLANK; $second];
-        let mut keeper = Journal::new(&mut slots, &mut bytes, &mut notes);
-        $check($rt, &mut keeper $(, $more)*)
-    }};
+    ($rt:expr; $($rest:tt)*) => { on_keeper!($rt; Journal, Note::BLANK, $($rest)*) };
 }
 
+// Kept: a test for each check on each keeper, so that one that fails is told by its name.
 #[test]
 fn copy_back_one_by_one(rt: HostRuntime) -> Result<(), Fail> {
     on_copies!(&rt; 3, 2, 9, back_one_by_one)

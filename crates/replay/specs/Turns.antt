@@ -1,5 +1,5 @@
--- How slots hold a phase and a modifier, and which level each save opens.
-use Rattle.std.specs.Prelude.{ℕ, false, ℤ, pos}
+-- How slots hold a phase and a modifier, which level each save opens, and how both are printed.
+use Rattle.std.specs.Prelude.{ℕ, List, codes, false, ℤ, pos}
 use Rattle.objects.specs.declared.object.Object.{Object}
 use Rattle.objects.specs.declared.object.Value.TheVariants.{Integer}
 use Rattle.replay.specs.declared.phase.Phase.{Phase}
@@ -17,9 +17,18 @@ phase_object Muster = number_object (pos 1)
 phase_object Battle = number_object (pos 2)
 phase_object Aftermath = number_object (pos 3)
 
+abbrev pub phase_word : Phase → List ℕ
+phase_word Muster = codes "muster"
+phase_word Battle = codes "battle"
+phase_word Aftermath = codes "aftermath"
+
 abbrev pub save_level : Save → ℕ
 save_level Outer = 0
 save_level Inner = 1
+
+abbrev pub save_word : Save → List ℕ
+save_word Outer = codes "outer"
+save_word Inner = codes "inner"
 
 abbrev pub noted : Save → Scene → Remembered → Remembered
 noted Outer s r = record { outer = s; inner = r.inner }

@@ -21,23 +21,18 @@ const SLOTS: usize = 2;
 // Room for the outer save and the inner one.
 const SECOND: usize = 4;
 
-fn on_journal(rt: &HostRuntime) -> Result<(), Stop> {
-    let mut slots = [Object::BLANK; SLOTS];
-    let mut bytes = [0u8; 1];
-    let mut notes = [Note::BLANK; SECOND];
-    let mut keeper = Journal::new(&mut slots, &mut bytes, &mut notes);
-    replay(rt, "journal keeper", &mut keeper)
-}
-
-fn on_copies(rt: &HostRuntime) -> Result<(), Stop> {
-    let mut slots = [Object::BLANK; SLOTS];
-    let mut bytes = [0u8; 1];
-    let mut copies = [Object::BLANK; SECOND];
-    let mut keeper = CopyKeeper::new(&mut slots, &mut bytes, &mut copies);
-    replay(rt, "copy keeper", &mut keeper)
+// The replay on a keeper of this type, with this blank place of second memory.
+macro_rules! replay_on {
+    ($rt:expr; $keeper:ident, $blank:expr, $named:literal) => {{
+        let mut slots = [Object::BLANK; SLOTS];
+        let mut bytes = [0u8; 1];
+        let mut second = [$blank; SECOND];
+        let mut keeper = $keeper::new(&mut slots, &mut bytes, &mut second);
+        replay($rt, $named, &mut keeper)
+    }};
 }
 
 fn main(rt: HostRuntime) -> Result<(), Stop> {
-    on_journal(&rt)?;
-    on_copies(&rt)
+    replay_on!(&rt; Journal, Note::BLANK, "journal keeper")?;
+    replay_on!(&rt; CopyKeeper, Object::BLANK, "copy keeper")
 }

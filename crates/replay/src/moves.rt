@@ -1,8 +1,9 @@
 // What the story does, move by move.
-ghost use Rattle.std.specs.Prelude.{◌≡◌};
-ghost use Rattle.replay.specs.Turns.{save_level};
+ghost use Rattle.std.specs.Prelude.{◌≡◌, Some};
+ghost use Rattle.replay.specs.Turns.{save_level, save_word};
 
 use crate::phase::Phase;
+use std::fmt;
 
 #[derive(Clone, Copy)]
 pub enum Save {
@@ -20,12 +21,16 @@ impl Save {
             Save::Inner => 1,
         }
     }
+}
 
-    pub fn word(self) -> &'static str {
-        match self {
+impl fmt::Display for Save {
+    ghost output = { λ s. Some (save_word s) };
+
+    fn fmt<W: fmt::Write>(&self, f: &mut fmt::Formatter<W>) -> fmt::Result {
+        f.pad(match self {
             Save::Outer => "outer",
             Save::Inner => "inner",
-        }
+        })
     }
 }
 

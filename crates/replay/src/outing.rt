@@ -3,6 +3,7 @@ use crate::scene::{MODIFIER, PHASE};
 use keepers::excursion::Move;
 use objects::object::{Object, Value};
 
+// Kept: the two phases written out, since a constant cannot call From.
 const BATTLE: Object = Object {
     value: Value::Integer(2),
     executable: false,

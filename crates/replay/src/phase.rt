@@ -1,8 +1,9 @@
-// A phase and a modifier as slots hold them: integers.
-ghost use Rattle.std.specs.Prelude.{◌≡◌, Some};
-ghost use Rattle.replay.specs.Turns.{number_object, phase_object};
+// The phases, as the story names them and as slots hold them: integers.
+ghost use Rattle.std.specs.Prelude.{◌≡◌, Ok, Some};
+ghost use Rattle.replay.specs.Turns.{phase_object, phase_word};
 
 use objects::object::{Object, Value};
+use std::fmt;
 
 #[derive(Clone, Copy)]
 pub enum Phase {
@@ -11,43 +12,47 @@ pub enum Phase {
     Aftermath,
 }
 
-impl Phase {
-    pub fn object(self) -> Object
-        ensures { result ≡ phase_object self }
-    {
-        match self {
-            Phase::Muster => number_object(1),
-            Phase::Battle => number_object(2),
-            Phase::Aftermath => number_object(3),
-        }
-    }
+// An object that stands for no phase.
+#[derive(Clone, Copy, Debug)]
+pub struct NoPhase;
 
-    pub fn word(self) -> &'static str {
-        match self {
+impl fmt::Display for Phase {
+    ghost output = { λ p. Some (phase_word p) };
+
+    fn fmt<W: fmt::Write>(&self, f: &mut fmt::Formatter<W>) -> fmt::Result {
+        f.pad(match self {
             Phase::Muster => "muster",
             Phase::Battle => "battle",
             Phase::Aftermath => "aftermath",
+        })
+    }
+}
+
+impl From<Phase> for Object {
+    ghost from_gives = { λ p o. o ≡ phase_object p };
+
+    fn from(phase: Phase) -> Object {
+        Object::from(match phase {
+            Phase::Muster => 1,
+            Phase::Battle => 2,
+            Phase::Aftermath => 3,
+        })
+    }
+}
+
+impl TryFrom<Object> for Phase {
+    type Error = NoPhase;
+
+    ghost use Rattle.replay.specs.declared.phase.Phase.{Phase};
+
+    ghost try_from_gives = { λ o r. (p : Phase) → o ≡ phase_object p → r ≡ Ok p };
+
+    fn try_from(object: Object) -> Result<Phase, NoPhase> {
+        match object.value {
+            Value::Integer(1) => Ok(Phase::Muster),
+            Value::Integer(2) => Ok(Phase::Battle),
+            Value::Integer(3) => Ok(Phase::Aftermath),
+            _ => Err(NoPhase),
         }
-    }
-}
-
-pub fn number_object(number: i32) -> Object
-    ensures { result ≡ number_object number }
-{
-    Object {
-        value: Value::Integer(number),
-        executable: false,
-    }
-}
-
-// The phase that an object stands for, if it stands for one.
-pub fn phase_of(object: Object) -> Option<Phase>
-    ensures { (p : Phase) → object ≡ phase_object p → result ≡ Some p }
-{
-    match object.value {
-        Value::Integer(1) => Some(Phase::Muster),
-        Value::Integer(2) => Some(Phase::Battle),
-        Value::Integer(3) => Some(Phase::Aftermath),
-        _ => None,
     }
 }

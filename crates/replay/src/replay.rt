@@ -4,7 +4,6 @@ ghost use Rattle.replay.specs.Turns.{noted, remembered};
 
 use crate::moves::{BACK_BY_BOTH, BACK_STRAIGHT, Move, STORY, Save};
 use crate::outing::OUTING;
-use crate::phase::number_object;
 use crate::scene::{MODIFIER, PHASE, Scene};
 use crate::stop::Stop;
 use keepers::excursion::there_and_back;
@@ -13,6 +12,7 @@ use objects::fault::Fault;
 use std::io;
 
 // The slots as they were right before each save.
+// Kept: a field for each save: an array indexed by level would need its index proved in range, a match does not.
 #[derive(Drop)]
 struct Remembered {
     outer: Scene,
@@ -41,8 +41,8 @@ impl Remembered {
 
 fn play<K: Keeper>(keeper: &mut K, step: Move) -> Result<(), Fault> {
     match step {
-        Move::Phase(phase) => keeper.put_slot(PHASE, phase.object()),
-        Move::Modifier(number) => keeper.put_slot(MODIFIER, number_object(number)),
+        Move::Phase(phase) => keeper.put_slot(PHASE, phase.into()),
+        Move::Modifier(number) => keeper.put_slot(MODIFIER, number.into()),
         Move::Open(_) => keeper.open_level(),
         Move::Back(save) => keeper.back_to(save.level()),
     }
@@ -50,17 +50,22 @@ fn play<K: Keeper>(keeper: &mut K, step: Move) -> Result<(), Fault> {
 
 fn print_move(rt: &HostRuntime, step: Move) -> io::Result<()> {
     match step {
-        Move::Phase(phase) => print!(rt; "  phase     {:<10}", phase.word()),
+        Move::Phase(phase) => print!(rt; "  phase     {phase:<10}"),
         Move::Modifier(number) => print!(rt; "  modifier  {number:<10}"),
-        Move::Open(save) => print!(rt; "  save      {:<10}", save.word()),
-        Move::Back(save) => print!(rt; "  back to   {:<10}", save.word()),
+        Move::Open(save) => print!(rt; "  save      {save:<10}"),
+        Move::Back(save) => print!(rt; "  back to   {save:<10}"),
     }
 }
 
+// Kept: two matches, since a number or a phase and the dash for none have no type in common.
 fn print_scene(rt: &HostRuntime, scene: Scene) -> io::Result<()> {
-    match scene.modifier_number() {
-        Some(number) => print!(rt; "  {:<10} {number:>8}", scene.phase_word()),
-        None => print!(rt; "  {:<10}        -", scene.phase_word()),
+    match scene.phase() {
+        Some(phase) => print!(rt; "  {phase:<10}")?,
+        None => print!(rt; "  {:<10}", "-")?,
+    }
+    match scene.modifier() {
+        Some(number) => print!(rt; " {number:>8}"),
+        None => print!(rt; " {:>8}", "-"),
     }
 }
 
@@ -68,7 +73,7 @@ fn verdict(found: Scene, saved: Scene) -> &'static str
     ensures same { found ≡ saved → result.now ≡ codes "as saved" }
     ensures different { found ≢ saved → result.now ≡ codes "DIFFERENT" }
 {
-    if found.same_as(saved) {
+    if found == saved {
         "as saved"
     } else {
         "DIFFERENT"

@@ -1,7 +1,5 @@
 // The two slots that the story is about.
-ghost use Rattle.std.specs.Prelude.{◌≡◌, Decides};
-
-use crate::phase::phase_of;
+use crate::phase::Phase;
 use keepers::keeper::Keeper;
 use objects::fault::Fault;
 use objects::object::{Object, Value};
@@ -12,8 +10,8 @@ pub const MODIFIER: usize = 1;
 
 #[derive(Clone, Copy, PartialEq)]
 pub struct Scene {
-    phase: Object,
-    modifier: Object,
+    pub phase: Object,
+    pub modifier: Object,
 }
 
 impl Scene {
@@ -28,21 +26,12 @@ impl Scene {
         Ok(Scene { phase, modifier })
     }
 
-    // Whether the two scenes are the same.
-    pub fn same_as(self, other: Scene) -> bool
-        ensures { Decides result (self ≡ other) }
-    {
-        self == other
+    // The phase, if slots hold one.
+    pub fn phase(self) -> Option<Phase> {
+        Phase::try_from(self.phase).ok()
     }
 
-    pub fn phase_word(self) -> &'static str {
-        match phase_of(self.phase) {
-            Some(phase) => phase.word(),
-            None => "-",
-        }
-    }
-
-    pub fn modifier_number(self) -> Option<i32> {
+    pub fn modifier(self) -> Option<i32> {
         match self.modifier.value {
             Value::Integer(number) => Some(number),
             _ => None,
