@@ -1,4 +1,5 @@
 #!/usr/bin/env bash
+# Fits the tree at commit fbff2134f5f043bda1b768f30bafe07f11591a47 alone, before the design pass: check that out first (docs/PORT.md).
 # Takes up again what docs/PORT.md calls the unfinished work: changes the landed crates as it had changed them, and makes its crates
 # code again. Run it in a clean work tree, once; then check, and commit.
 set -euo pipefail

@@ -128,7 +128,7 @@ impl<K: Keeper> Memory<'_, K> {
     }
 
     // One slot or one byte, and slots or bytes taken: the calls above, each at its type.
-    // Kept: names of their own, since `memory.slot(at)` says which part is meant where `get` leaves it to the type that is wanted; without them callers would be no plainer.
+    // Kept: names of their own, since `slot(at)` and `take_slots(n)` say which part is meant, where `get` and `take` leave it to the type.
     pub fn slot(&self, at: usize) -> Object
         ensures { result ≡ slice_index_or self.now.kept.slots at blank }
     {

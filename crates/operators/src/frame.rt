@@ -19,7 +19,7 @@ pub enum Frame {
     Loop {
         body: Span,
     },
-    // Kept: a variant for arrays and one for strings, since a frame says what it goes over; one variant with a kind would be taken apart at each step.
+    // Kept: a variant for arrays and one for strings, since a frame says what it goes over; with one variant and a kind beside it, each reader would match the kind as well.
     ForallArray {
         left: Span,
         whole: Span,
