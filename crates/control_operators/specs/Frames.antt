@@ -1,5 +1,5 @@
 -- Frames made and taken down by the control operators.
-use Rattle.std.specs.Prelude.{ℕ, ◌+◌, Bool, true, false, cond, List, [], ◌∷◌, length, drop, Some, None, Ok, Err, Option, Result, ◌==◌, nat_lt}
+use Rattle.std.specs.Prelude.{ℕ, ◌+◌, Bool, true, false, cond, List, [], ◌∷◌, length, drop, Some, None, Ok, Err, Option, Result, ◌==◌, nat_lt, ok_or}
 use Rattle.objects.specs.declared.fault.Fault.{Fault}
 use Rattle.objects.specs.declared.fault.Fault.TheVariants.{ExecStackOverflow, InvalidExit}
 use Rattle.objects.specs.declared.object.Span.{Span}
@@ -123,9 +123,5 @@ unfoldable pub down_to_loop : ℕ → List Frame → Option ℕ
 down_to_loop n [] = None
 down_to_loop n (f ∷ fs) = leaving f n (down_to_loop (n + 1) fs)
 
-abbrev pub or_exit : Option ℕ → Result ℕ Fault
-or_exit None = Err InvalidExit
-or_exit (Some n) = Ok n
-
 abbrev pub left_loop : State → Result State Fault
-left_loop s = then (or_exit (down_to_loop 0 s.frames)) (λ n. Ok (with_frames (drop n s.frames) s))
+left_loop s = then (ok_or (down_to_loop 0 s.frames) InvalidExit) (λ n. Ok (with_frames (drop n s.frames) s))

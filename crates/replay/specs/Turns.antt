@@ -1,7 +1,7 @@
 -- How slots hold a phase and a modifier, which level each save opens, and how both are printed.
-use Rattle.std.specs.Prelude.{ℕ, List, codes, false, ℤ, pos}
+use Rattle.std.specs.Prelude.{ℕ, List, codes, pos}
+use Rattle.objects.specs.Objects.{integer}
 use Rattle.objects.specs.declared.object.Object.{Object}
-use Rattle.objects.specs.declared.object.Value.TheVariants.{Integer}
 use Rattle.replay.specs.declared.phase.Phase.{Phase}
 use Rattle.replay.specs.declared.phase.Phase.TheVariants.{Muster, Battle, Aftermath}
 use Rattle.replay.specs.declared.moves.Save.{Save}
@@ -9,13 +9,10 @@ use Rattle.replay.specs.declared.moves.Save.TheVariants.{Outer, Inner}
 use Rattle.replay.specs.declared.scene.Scene.{Scene}
 use Rattle.replay.specs.declared.replay.Remembered.{Remembered}
 
-abbrev pub number_object : ℤ → Object
-number_object n = record { value = Integer n; executable = false }
-
 abbrev pub phase_object : Phase → Object
-phase_object Muster = number_object (pos 1)
-phase_object Battle = number_object (pos 2)
-phase_object Aftermath = number_object (pos 3)
+phase_object Muster = integer (pos 1)
+phase_object Battle = integer (pos 2)
+phase_object Aftermath = integer (pos 3)
 
 abbrev pub phase_word : Phase → List ℕ
 phase_word Muster = codes "muster"
@@ -31,8 +28,8 @@ save_word Outer = codes "outer"
 save_word Inner = codes "inner"
 
 abbrev pub noted : Save → Scene → Remembered → Remembered
-noted Outer s r = record { outer = s; inner = r.inner }
-noted Inner s r = record { outer = r.outer; inner = s }
+noted Outer s r = record r { outer = s }
+noted Inner s r = record r { inner = s }
 
 abbrev pub remembered : Save → Remembered → Scene
 remembered Outer r = r.outer

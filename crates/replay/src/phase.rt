@@ -45,7 +45,7 @@ impl TryFrom<Object> for Phase {
 
     ghost use Rattle.replay.specs.declared.phase.Phase.{Phase};
 
-    ghost try_from_gives = { λ o r. (p : Phase) → o ≡ phase_object p → r ≡ Ok p };
+    ghost try_from_gives = { λ o r. (p : Phase) → (o ≡ phase_object p → r ≡ Ok p) × (r ≡ Ok p → o.value ≡ (phase_object p).value) };
 
     fn try_from(object: Object) -> Result<Phase, NoPhase> {
         match object.value {
