@@ -1,15 +1,15 @@
 -- What == answers decides whether two values are the same, at each type that has it.
-use Rattle.std.proofs.Common.{◌≡◌, Bool, ◌&&◌, ◌==◌, Decides, refl, ap}
+use Rattle.std.proofs.Common.{◌≡◌, ℤ, Bool, ◌&&◌, ◌==◌, Ok, Err, Result, Decides, refl, ap}
 use Rattle.std.proofs.lemmas.Bool.{false≢true, eqb-true, eq-eqb}
+use Rattle.std.specs.Ordering.{int_eq}
+use Rattle.std.specs.Result.{result_eq}
 use Rattle.std.specs.Cmp.{unsigned_Decides, signed_Decides, booleans_Decides}
 use denote.Enum.Bare.{sameb, same_true, true_same}
-use Rattle.std.proofs.lemmas.Bool.Decides.{same_from_decides, Decides-and, Decides-like}
+use Rattle.std.proofs.lemmas.Bool.Decides.{Decides-and, Decides-like}
 use Rattle.objects.specs.Faults.{fault_number}
 use Rattle.objects.specs.Operators.{number}
 use Rattle.objects.proofs.Faults as faults
 use Rattle.objects.proofs.Operators as operators
-use Rattle.objects.specs.contracts.fault.Fault as fault_type
-use Rattle.objects.specs.contracts.operator.Operator as operator_type
 use Rattle.objects.specs.contracts.integer.IntegerError as error_type
 use Rattle.objects.specs.contracts.object.ObjectPartialEq.TheImpl as of_object
 use Rattle.objects.specs.contracts.object.ValuePartialEq.TheImpl as of_value
@@ -35,20 +35,23 @@ pub three : {A P Q R : Type 0} (x y : A) (r s t : Bool) → (P → Q → R → x
 three x y r s t make first second third d e f =
     Decides-like (r && (s && t)) (λ p. make p.0 p.1.0 p.1.1) (λ p. (first p, (second p, third p))) (Decides-and r (s && t) d (Decides-and s t e f))
 
-pub fault_decides : (a b : Fault) → Decides (sameb fault_type.the_type a b) (a ≡ b)
-fault_decides a b = (same_true fault_type.the_type tt a b, true_same fault_type.the_type a b)
+pub fault_decides : (a b : Fault) → Decides (fault_number a == fault_number b) (a ≡ b)
+fault_decides a b = (λ t. faults.same_from_number a b (eqb-true _ _ t), λ e. eq-eqb _ _ (ap fault_number e))
 
-pub operator_decides : (a b : Operator) → Decides (sameb operator_type.the_type a b) (a ≡ b)
-operator_decides a b = (same_true operator_type.the_type tt a b, true_same operator_type.the_type a b)
+pub operator_decides : (a b : Operator) → Decides (number a == number b) (a ≡ b)
+operator_decides a b = (λ t. operators.same_from_number a b (eqb-true _ _ t), λ e. eq-eqb _ _ (ap number e))
 
 pub error_decides : (a b : IntegerError) → Decides (sameb error_type.the_type a b) (a ≡ b)
 error_decides a b = (same_true error_type.the_type tt a b, true_same error_type.the_type a b)
 
-pub fault_numbers : (a b : Fault) → sameb fault_type.the_type a b ≡ (fault_number a == fault_number b)
-fault_numbers a b = same_from_decides _ _ (fault_decides a b) (λ t. faults.same_from_number a b (eqb-true _ _ t), λ e. eq-eqb _ _ (ap fault_number e))
+-- what `==` answers of two readings of an integer
+abbrev eq_of_reading : Result ℤ IntegerError → Result ℤ IntegerError → Bool
+eq_of_reading = result_eq int_eq (λ (e f : IntegerError). sameb error_type.the_type e f)
 
-pub operator_numbers : (a b : Operator) → sameb operator_type.the_type a b ≡ (number a == number b)
-operator_numbers a b = same_from_decides _ _ (operator_decides a b) (λ t. operators.same_from_number a b (eqb-true _ _ t), λ e. eq-eqb _ _ (ap number e))
+pub reading_decides : (a b : Result ℤ IntegerError) → Decides (eq_of_reading a b) (a ≡ b)
+reading_decides (Ok y) (Ok z) = over Ok y z _ (λ e. cc) (signed_Decides y z)
+reading_decides (Err e) (Err f) = over Err e f _ (λ e. cc) (error_decides e f)
+reading_decides a b = (λ t. absurd (false≢true t), λ e. cc)
 
 pub span_decides : (a b : Span) → Decides ((a.start == b.start) && (a.len == b.len)) (a ≡ b)
 span_decides a b =

@@ -1,5 +1,5 @@
 // The decimal text of an integer: at most a sign and ten digits, without a leading zero.
-ghost use Rattle.std.specs.Prelude.{◌≡◌, Ok};
+ghost use Rattle.std.specs.Prelude.{◌≡◌, ◌≤◌, length, Ok};
 ghost use Rattle.objects.specs.Decimals.{written, integer_text, integer_read};
 
 use arrayvec::ArrayString;
@@ -21,8 +21,10 @@ impl DecimalText {
         DecimalText { text }
     }
 
+    // At most a sign and ten digits.
     pub fn bytes(&self) -> &[u8]
-        ensures { result.now ≡ written self.now }
+        ensures text { result.now ≡ written self.now }
+        ensures short { length result.now ≤ 11 }
     {
         self.text.as_bytes()
     }

@@ -1,5 +1,5 @@
 // What `==` answers, at every type of this crate that has it: whether the two values are the same.
-ghost use Rattle.std.specs.Prelude.{◌≡◌, ◌==◌, Decides};
+ghost use Rattle.std.specs.Prelude.{◌≡◌, ◌==◌, ℤ, Result, Decides};
 ghost use Rattle.objects.specs.Faults.{fault_number};
 ghost use Rattle.objects.specs.Operators.{number};
 ghost use Rattle.objects.specs.declared.fault.Fault.{Fault};
@@ -25,5 +25,6 @@ pub fn equality_decides()
     ensures headers { (a b : Header) → Decides (⟦<Header as PartialEq>⟧.eq a b) (a ≡ b) }
     ensures values { (a b : Value) → Decides (⟦<Value as PartialEq>⟧.eq a b) (a ≡ b) }
     ensures objects { (a b : Object) → Decides (⟦<Object as PartialEq>⟧.eq a b) (a ≡ b) }
+    ensures readings { (a b : Result ℤ IntegerError) → Decides (⟦<Result<i32, IntegerError> as PartialEq>⟧.eq a b) (a ≡ b) }
     ensures errors { (a b : IntegerError) → Decides (⟦<IntegerError as PartialEq>⟧.eq a b) (a ≡ b) }
 {}

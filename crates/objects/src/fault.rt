@@ -1,10 +1,14 @@
 // The refusals: each has a number, which reports and answers carry, and a name.
-ghost use Rattle.std.specs.Prelude.{◌≡◌, Some};
+ghost use Rattle.std.specs.Prelude.{◌≡◌, ◌==◌, Some, Decides, nat_eq};
 ghost use Rattle.objects.specs.Faults.{fault_number, fault_name};
+ghost use Rattle.std.specs.Cmp.Rules.{comparing};
+ghost use Rattle.std.proofs.Common.{rules};
+ghost use Rattle.std.specs.Cmp as Keys;
+ghost use Rattle.std.specs.Ordering.{on};
 
 use std::fmt;
 
-#[derive(Clone, Copy, PartialEq, Eq, Debug)]
+#[derive(Clone, Copy, Debug)]
 pub enum Fault {
     StackUnderflow = 1,
     TypeCheck = 2,
@@ -64,6 +68,25 @@ impl Fault {
             Fault::NoOperand => "no such operand",
         }
     }
+}
+
+// Two refusals are the same exactly when their numbers are.
+// Kept: `==` by hand, since a derived one has no method on which the two clauses could stand for its callers.
+impl PartialEq for Fault {
+    ghost eq = { on fault_number nat_eq };
+
+    ghost laws = { Keys.partial_equiv_from_equiv (Prim.search (comparing, rules)) };
+
+    fn eq(&self, other: &Fault) -> bool
+        ensures answer { result ≡ (fault_number self.now == fault_number other.now) }
+        ensures same { Decides result (self.now ≡ other.now) }
+    {
+        self.number() == other.number()
+    }
+}
+
+impl Eq for Fault {
+    ghost laws = { Prim.search (comparing, rules) };
 }
 
 impl fmt::Display for Fault {

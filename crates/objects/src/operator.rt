@@ -1,8 +1,12 @@
 // The operators of a rule file: each has a number, 1 to 70 in this order, and a name.
-ghost use Rattle.std.specs.Prelude.{◌≡◌, Some};
+ghost use Rattle.std.specs.Prelude.{◌≡◌, ◌==◌, Some, Decides, nat_eq};
 ghost use Rattle.objects.specs.Operators.{number, name, operator_named};
+ghost use Rattle.std.specs.Cmp.Rules.{comparing};
+ghost use Rattle.std.proofs.Common.{rules};
+ghost use Rattle.std.specs.Cmp as Keys;
+ghost use Rattle.std.specs.Ordering.{on};
 
-#[derive(Clone, Copy, PartialEq, Eq, Debug)]
+#[derive(Clone, Copy, Debug)]
 pub enum Operator {
     Pop = 1,
     Exch = 2,
@@ -243,4 +247,23 @@ impl Operator {
     {
         ALL.iter().copied().find(|operator| operator.name() == text)
     }
+}
+
+// Two operators are the same exactly when their numbers are.
+// Kept: `==` by hand, since a derived one has no method on which the two clauses could stand for its callers.
+impl PartialEq for Operator {
+    ghost eq = { on number nat_eq };
+
+    ghost laws = { Keys.partial_equiv_from_equiv (Prim.search (comparing, rules)) };
+
+    fn eq(&self, other: &Operator) -> bool
+        ensures answer { result ≡ (number self.now == number other.now) }
+        ensures same { Decides result (self.now ≡ other.now) }
+    {
+        self.number() == other.number()
+    }
+}
+
+impl Eq for Operator {
+    ghost laws = { Prim.search (comparing, rules) };
 }

@@ -6,7 +6,7 @@ use Rattle.names.proofs.table.NameTable.has_room.Goals as goal
 
 pub returns-then-text-le-LONGEST_NAME : goal.returns-then-text-le-LONGEST_NAME
 returns-then-text-le-LONGEST_NAME c =
-    room_is _ _ _ _ _ c.self.invariant c.self.view_is c.args.text.now (omega (arith, c.if-text-le-LONGEST_NAME.true.0)) c.if-text-le-LONGEST_NAME.true.1
+    room_is _ _ _ _ _ c.self.invariant c.self.view_is c.args.text.now (omega (arith, c.if-text-le-LONGEST_NAME.true.0)) (omega (arith, c.if-text-le-LONGEST_NAME.true.1))
 
 pub returns-else-text-le-LONGEST_NAME : goal.returns-else-text-le-LONGEST_NAME
 returns-else-text-le-LONGEST_NAME c =

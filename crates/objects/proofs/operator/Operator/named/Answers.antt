@@ -10,7 +10,8 @@ use Rattle.objects.proofs.operator.Operator.named.Goals as goal
 
 pub returns-clause-answer : goal.returns-clause-answer
 returns-clause-answer c =
-    sym (option_map_id c.find.result) ∙ find_from_yields_List (λ o. bytes_eq (name o) c.args.text.now) _ _ _ c.find.ensures.ran (YieldsList-from_copied (YieldsList-from_slice operators cc)) (λ x b q k. search rules)
+    let found = sym (option_map_id c.find.result) ∙ find_from_yields_List (λ o. bytes_eq (name o) c.args.text.now) _ _ _ c.find.ensures.ran (YieldsList-from_copied (YieldsList-from_slice operators cc)) (λ x b q k. search rules) in
+    cc
 
 pub returns-clause-unique : goal.returns-clause-unique
 returns-clause-unique c = named_name
