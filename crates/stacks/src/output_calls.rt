@@ -4,29 +4,31 @@ ghost use Rattle.objects.specs.Outcomes.{after, heard};
 ghost use Rattle.stacks.specs.Printed.{appended, moved, left};
 
 use crate::output::Output;
-use arrayvec::ArrayVec;
 use objects::fault::Fault;
+
+const MOST: usize = 4096;
 
 impl Output {
     pub fn new() -> Output
         ensures { result ≡ [] }
     {
         Output {
-            bytes: ArrayVec::new(),
+            bytes: [0; MOST],
+            len: 0,
         }
     }
 
     pub fn len(&self) -> usize
         ensures { result ≡ length self.now }
     {
-        self.bytes.len()
+        self.len
     }
 
     pub fn room(&self) -> usize
         ensures value { result ≡ 4096 - length self.now }
         ensures within { length self.now ≤ 4096 }
     {
-        self.bytes.remaining_capacity()
+        MOST - self.len
     }
 
     // All of the text, or none of it.
@@ -34,9 +36,13 @@ impl Output {
         ensures answer { result ≡ heard (appended text.now self.old) }
         ensures state { self.new ≡ after (appended text.now self.old) self.old }
     {
-        self.bytes
-            .try_extend_from_slice(text)
-            .map_err(|_| Fault::IoError)
+        if text.len() > self.room() {
+            return Err(Fault::IoError);
+        }
+        let end = self.len + text.len();
+        self.bytes[self.len..end].copy_from_slice(text);
+        self.len = end;
+        Ok(())
     }
 
     pub fn write_byte(&mut self, byte: u8) -> Result<(), Fault>
@@ -65,9 +71,15 @@ impl Output {
         ensures buffer { buffer.new ≡ moved self.old buffer.old }
         ensures state { self.new ≡ left self.old buffer.old }
     {
-        let count = self.bytes.len().min(buffer.len());
+        let count = self.len.min(buffer.len());
         buffer[..count].copy_from_slice(&self.bytes[..count]);
-        self.bytes.drain(..count);
+        let waiting = &mut self.bytes[..self.len];
+        match count {
+            // the library rotates by one place in a single move of memory
+            1 => waiting.rotate_left(1),
+            _ => waiting.copy_within(count.., 0),
+        }
+        self.len -= count;
         count
     }
 }
