@@ -46,9 +46,15 @@ impl From<Key> for Object {
 
 impl Key {
     // Whether a key slot holds this key.
+    // Kept: a match of both and no `==` of what the slot reads as, since every pair that a search passes would cost twice as much.
     pub fn is_in(self, object: Object) -> bool
         ensures { result ≡ holds self object.value }
     {
-        Key::try_from(object.value) == Ok(self)
+        match (self, object.value) {
+            (Key::Name(key), Value::Name(name)) => key == name,
+            (Key::Integer(key), Value::Integer(number)) => key == number,
+            (Key::Boolean(key), Value::Boolean(flag)) => key == flag,
+            _ => false,
+        }
     }
 }
