@@ -1,7 +1,6 @@
--- A string's bytes, as the calls of a function that reads one byte gave them.
-use Rattle.std.proofs.Common.{◌≡◌, ℕ, zero, suc, ◌+◌, ◌<◌, ◌≤◌, List, [], ◌∷◌, length, get_or, take, drop, sym, subst, refl, ap, ◌∙◌, arith, drop-cons}
-use Rattle.std.specs.Array.{IsFromFnResult, IsFromFnResultFrom}
-use Rattle.std.specs.Fn.{Mut, Called}
+-- A string's bytes, read one after the other.
+use Rattle.std.proofs.Common.{◌≡◌, ℕ, suc, ◌+◌, ◌-◌, ◌<◌, List, [], ◌∷◌, ◌++◌, length, take, set, sym, refl, ap, ◌∙◌, arith}
+use Rattle.std.proofs.lemmas.List.{append-nil, append_assoc, take_more_set}
 use Rattle.memory.specs.Memories.{InUse}
 use Rattle.operators.specs.Texts.{byte_in, bytes_from}
 
@@ -13,22 +12,18 @@ bytes_zero : (at : ℕ) (m : InUse) → bytes_from at 0 m ≡ []
 unfolding bytes_from
 bytes_zero at m = refl
 
-module _ {F : Type 0} (g : Mut F (ℕ × Unit {0}) ℕ) (f : F) (m : InUse) (at len : ℕ) (reads : (i y : ℕ) (q : F) → i < len → Called g f (i, tt) y q → (y ≡ byte_in m (at + i)) × (q ≡ f)) where
-  text_from : (ys : List ℕ) (i j n k : ℕ) → j ≡ at + i → i + n ≤ len → n ≤ k → i + k ≤ length ys → IsFromFnResultFrom g f ys i k → take n (drop i ys) ≡ bytes_from j n m
-  text_from ys i j zero k from below room long made = sym (bytes_zero j m)
-  text_from ys i j (suc n) zero from below room long made = absurd (omega arith)
-  text_from ys i j (suc n) (suc k) from below room long made =
-      let read = reads i made.1 made.0 (omega arith) made.3 in
-      let one : suc i ≡ i + 1 = omega arith in
-      let here : drop i ys ≡ get_or ys i 0 ∷ drop (i + 1) ys = drop-cons ys i 0 (omega arith) ∙ ap (λ j. get_or ys i 0 ∷ drop j ys) one in
-      let next : j + 1 ≡ at + (i + 1) = omega arith in
-      let rest = text_from ys (i + 1) (j + 1) n k next (omega arith) (omega arith) (omega arith) (subst (λ p. IsFromFnResultFrom g p ys (i + 1) k) read.1 made.4) in
-      ap (take (suc n)) here
-      ∙ ap (λ x. x ∷ take n (drop (i + 1) ys)) (made.2.1 0 ∙ read.0 ∙ ap (byte_in m) (sym from))
-      ∙ ap (λ xs. byte_in m j ∷ xs) rest
-      ∙ sym (bytes_suc j n m)
+-- what is left to read, once one more is read
+pub bytes_more : (at n i : ℕ) (m : InUse) (xs : List ℕ) → i < n → i < length xs → take (i + 1) (set xs i (byte_in m (at + i))) ++ bytes_from (at + (i + 1)) (n - (i + 1)) m ≡ take i xs ++ bytes_from (at + i) (n - i) m
+bytes_more at n i m xs h room =
+    let one : n - i ≡ suc (n - (i + 1)) = omega arith in
+    let next : at + i + 1 ≡ at + (i + 1) = omega arith in
+    let b = byte_in m (at + i) in
+    let rest = bytes_from (at + (i + 1)) (n - (i + 1)) m in
+    let here : bytes_from (at + i) (n - i) m ≡ b ∷ rest =
+    ap (λ k. bytes_from (at + i) k m) one ∙ bytes_suc (at + i) (n - (i + 1)) m ∙ ap (λ a. b ∷ bytes_from a (n - (i + 1)) m) next in
+    ap (λ l. l ++ rest) (take_more_set xs i b room) ∙ append_assoc (take i xs) (b ∷ []) rest ∙ sym (ap (λ l. take i xs ++ l) here)
 
-pub text_made : {F : Type 0} {g : Mut F (ℕ × Unit {0}) ℕ} {f : F} {ys : List ℕ} {k : ℕ} → IsFromFnResult g f ys k → (m : InUse) (at len : ℕ) → len ≤ k → ((i y : ℕ) (q : F) → i < len → Called g f (i, tt) y q → (y ≡ byte_in m (at + i)) × (q ≡ f)) → take len ys ≡ bytes_from at len m
-text_made {F} {g} {f} {ys} {k} made m at len room reads =
-    let long = made.long in
-    text_from g f m at len reads ys 0 at len k (omega arith) (omega arith) (omega arith) (omega arith) made.each
+pub bytes_none : (at n i : ℕ) (m : InUse) (xs : List ℕ) → i ≡ n → take i xs ++ bytes_from at (n - i) m ≡ take n xs
+bytes_none at n i m xs h =
+    let none : n - i ≡ 0 = omega arith in
+    ap (λ k. take i xs ++ bytes_from at k m) none ∙ ap (λ l. take i xs ++ l) (bytes_zero at m) ∙ append-nil (take i xs) ∙ ap (λ k. take k xs) h

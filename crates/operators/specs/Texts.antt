@@ -18,9 +18,16 @@ bytes_from at (suc n) m = byte_in m at ∷ bytes_from (at + 1) n m
 abbrev pub text_of : Span → InUse → List ℕ
 text_of a m = bytes_from a.start a.len m
 
--- the number of the name with a string's bytes: a name has at most 128
+-- the number of the name with a string's bytes, among names: a name has at most 128
+abbrev pub number_of_string : Span → InUse → List (List ℕ) → Result ℕ Fault
+number_of_string a m names = cond (nat_le a.len 128) (join_answer (text_of a m) names) (Err LimitCheck)
+
+-- the names when a string's bytes have joined them
+abbrev pub names_with_string : Span → InUse → List (List ℕ) → List (List ℕ)
+names_with_string a m names = cond (nat_le a.len 128) (names_joined (text_of a m) names) names
+
 abbrev pub string_name : Span → State → Result ℕ Fault
-string_name a s = cond (nat_le a.len 128) (join_answer (text_of a s.memory) s.names) (Err LimitCheck)
+string_name a s = number_of_string a s.memory s.names
 
 -- what is left when a string's bytes have joined the names
 abbrev pub string_joined : Span → State → State

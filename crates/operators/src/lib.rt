@@ -3,6 +3,7 @@
 pub mod arithmetic;
 pub mod arrays;
 pub mod frame;
+pub mod keys;
 pub mod machine;
 pub mod machine_operands;
 pub mod operand;
