@@ -7,11 +7,30 @@ ghost use Rattle.text_operators.specs.Texts.{bytes_of};
 use crate::text::Text;
 use keepers::keeper::Keeper;
 use memory::memory::Memory;
+use objects::decimal_text::DecimalText;
 use objects::fault::Fault;
 use stacks::output::Output;
 
-// Appends a text that has room.
+// Appends a text that has room: at once, but for a string, whose bytes are read from memory one by one.
 fn append<K: Keeper>(output: &mut Output, memory: &Memory<K>, text: Text)
+    requires { length output.old + length (bytes_of text memory.now) ≤ 4096 }
+    ensures { output.new ≡ output.old ++ bytes_of text.entry memory.now }
+{
+    match text {
+        Text::Plain(bytes) => append_slice(output, bytes),
+        Text::Integer(number) => append_slice(output, DecimalText::of(number).bytes()),
+        Text::String(_) => append_each(output, memory, text),
+    }
+}
+
+fn append_slice(output: &mut Output, bytes: &[u8])
+    requires { length output.old + length bytes.now ≤ 4096 }
+    ensures { output.new ≡ output.old ++ bytes.now }
+{
+    let _ = output.write(bytes);
+}
+
+fn append_each<K: Keeper>(output: &mut Output, memory: &Memory<K>, text: Text)
     requires { length output.old + length (bytes_of text memory.now) ≤ 4096 }
     ensures { output.new ≡ output.old ++ bytes_of text.entry memory.now }
 {
