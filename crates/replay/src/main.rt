@@ -8,6 +8,7 @@ use keepers::journal::Journal;
 use keepers::note::Note;
 use objects::object::Object;
 
+mod column;
 mod moves;
 mod outing;
 mod phase;

@@ -2,6 +2,7 @@
 ghost use Rattle.std.specs.Prelude.{◌≡◌, ◌≢◌, codes};
 ghost use Rattle.replay.specs.Turns.{noted, remembered};
 
+use crate::column::Column;
 use crate::moves::{BACK_BY_BOTH, BACK_STRAIGHT, Move, STORY, Save};
 use crate::outing::OUTING;
 use crate::scene::{MODIFIER, PHASE, Scene};
@@ -57,16 +58,11 @@ fn print_move(rt: &HostRuntime, step: Move) -> io::Result<()> {
     }
 }
 
-// Kept: two matches, since a number or a phase and the dash for none have no type in common.
+// Both columns by one print, so that they go out by one write.
 fn print_scene(rt: &HostRuntime, scene: Scene) -> io::Result<()> {
-    match scene.phase() {
-        Some(phase) => print!(rt; "  {phase:<10}")?,
-        None => print!(rt; "  {:<10}", "-")?,
-    }
-    match scene.modifier() {
-        Some(number) => print!(rt; " {number:>8}"),
-        None => print!(rt; " {:>8}", "-"),
-    }
+    let phase = Column(scene.phase());
+    let modifier = Column(scene.modifier());
+    print!(rt; "  {phase:<10} {modifier:>8}")
 }
 
 fn verdict(found: Scene, saved: Scene) -> &'static str

@@ -1,4 +1,8 @@
 // The two slots that the story is about.
+ghost use Rattle.std.specs.Prelude.{◌≡◌, Some};
+ghost use Rattle.replay.specs.Turns.{phase_object, number_in};
+ghost use Rattle.replay.specs.declared.phase.Phase.{Phase};
+
 use crate::phase::Phase;
 use keepers::keeper::Keeper;
 use objects::fault::Fault;
@@ -27,11 +31,16 @@ impl Scene {
     }
 
     // The phase, if slots hold one.
-    pub fn phase(self) -> Option<Phase> {
+    pub fn phase(self) -> Option<Phase>
+        ensures { (p : Phase) → (self.phase ≡ phase_object p → result ≡ Some p) × (result ≡ Some p → self.phase.value ≡ (phase_object p).value) }
+    {
         Phase::try_from(self.phase).ok()
     }
 
-    pub fn modifier(self) -> Option<i32> {
+    // The modifier, if the slot holds an integer.
+    pub fn modifier(self) -> Option<i32>
+        ensures { result ≡ number_in self.modifier.value }
+    {
         match self.modifier.value {
             Value::Integer(number) => Some(number),
             _ => None,

@@ -20,13 +20,20 @@ pub fn first_byte(text: &[u8], from: usize) -> usize {
 #[derive(Clone, Copy)]
 pub struct Excerpt<'t>(pub &'t [u8]);
 
+// So many bytes of an excerpt go out by one write.
+const PART: usize = 64;
+
 impl fmt::Display for Excerpt<'_> {
     fn fmt<W: fmt::Write>(&self, f: &mut fmt::Formatter<W>) -> fmt::Result {
-        for byte in self.0 {
-            f.write_char(match byte {
-                32..=126 => char::from(*byte),
-                _ => '.',
-            })?;
+        for part in self.0.chunks(PART) {
+            let mut shown = [b'.'; PART];
+            for (place, byte) in shown.iter_mut().zip(part) {
+                if (32..=126).contains(byte) {
+                    *place = *byte;
+                }
+            }
+            let shown = shown.get(..part.len()).unwrap_or(&[]);
+            f.write_str(str::from_utf8(shown).unwrap_or(""))?;
         }
         Ok(())
     }
